@@ -1,10 +1,10 @@
 -- What is answered to the words of a call.
 use Rattle.std.specs.Prelude.{◌≡◌, ◌⊎◌, ℕ, List, [], Option}
 use Rattle.clap.specs.Words.{Text}
-use Rattle.cs_args.specs.CommandLine.{Asking, Asks, Check, Day, Help, Judge, Make, Reload, Replay}
-use Rattle.cs_args.specs.CommandLine.{Run, Status, Stop}
-use Rattle.cs_args.specs.CommandLine.{AskedStatus, AskedStop, AsksHelp, AsksVersion, IsNoCall}
-use Rattle.cs_args.specs.Asked.{asked_status, asked_stop}
+use Rattle.cs_args.specs.Asked.{Asking, Check, Day, Help, Judge, Make, Reload, Replay}
+use Rattle.cs_args.specs.CommandLine.{Asks}
+use Rattle.cs_args.specs.Asked.{Run, Status, Stop, AskedStatus, AskedStop, asked_status, asked_stop}
+use Rattle.cs_args.specs.CommandLine.{AsksHelp, AsksVersion, IsNoCall}
 use Rattle.cs_io.specs.Files.{Failed}
 use Rattle.cs_files.specs.Usage.{IsRejected, ShowsHelp, ShowsVersion}
 use Rattle.cs_show.specs.DayAnswer.{AnswersDay}

@@ -1,8 +1,9 @@
 -- What is answered to the words of a call.
 use Rattle.std.specs.Prelude.{◌⊎◌, ℕ, List, Option}
 use Rattle.clap.specs.Words.{Text}
-use Rattle.cs_args.specs.CommandLine.{Advise, Asking, Asks, Chart, Draft, Explain, Gather, Help}
-use Rattle.cs_args.specs.CommandLine.{Learn, Lint, Room}
+use Rattle.cs_args.specs.Asked.{Advise, Asking, Chart, Draft, Explain, Gather, Help}
+use Rattle.cs_args.specs.CommandLine.{Asks}
+use Rattle.cs_args.specs.Asked.{Learn, Lint, Room}
 use Rattle.cs_args.specs.CommandLine.{AsksHelp, AsksVersion, IsNoCall}
 use Rattle.cs_io.specs.Files.{Failed}
 use Rattle.cs_io.specs.Folders.{Tree}

@@ -1,7 +1,8 @@
 -- Which files a call reads, in which order, and what is to be warned of where memory runs out.
 use Rattle.std.specs.Prelude.{◌≡◌, ◌⊎◌, ℕ, List, [], Option, None}
 use Rattle.clap.specs.Words.{Text}
-use Rattle.cs_args.specs.CommandLine.{Asking, Asks, Advise, Chart, Draft, Gather, Help, Learn, Lint, Room}
+use Rattle.cs_args.specs.Asked.{Asking, Advise, Chart, Draft, Gather, Help, Learn, Lint, Room}
+use Rattle.cs_args.specs.CommandLine.{Asks}
 use Rattle.cs_io.specs.Files.{AreReadInTurn, Failed, Reads}
 use Rattle.cs_files.specs.RanOut.{IsUnwarned, IsWarned}
 use Rattle.cs_files.specs.Turn.{AreReadToGather, chart_paths, draft_paths, judge_paths, learn_paths, lint_paths}

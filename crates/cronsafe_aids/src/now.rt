@@ -9,7 +9,7 @@ use std::time::SystemTime;
 use std::{env, fs, io};
 
 /// What time it is.
-#[derive(Clone, Copy, Debug)]
+#[derive(Clone, Copy)]
 pub(crate) struct Now {
     /// The minutes by which local time is ahead of UTC.
     pub(crate) offset: i16,

@@ -4,12 +4,10 @@ use Rattle.std.specs.List.{AllZip, concat}
 use Rattle.std.proofs.lemmas.List.{append-nil, append_assoc}
 use Rattle.cs_check.specs.declared.checked.Checked.{Checked}
 use Rattle.cs_plan.specs.Plan.{Declared}
-use Rattle.cs_judge.specs.Called.{reach_in}
 use Rattle.cs_judge.specs.Judged.{IsCheckedFor, IsJudgement}
 use Rattle.cs_judge.specs.declared.judged.Judged.TheVariants.{Safe}
-use Rattle.cs_advise.specs.Advice.{IsAdvice, IsSafeLine}
+use Rattle.cs_advise.specs.Advice.{IsAdvice, IsLine, IsSafeLine}
 use Rattle.cs_advise.specs.Change.{IsChanged}
-use Rattle.cs_advise.specs.Told.{IsLine}
 use Rattle.cs_advise.specs.declared.change.Change.{Change}
 use Rattle.cs_advise.specs.declared.source.Source.{Source}
 
@@ -39,7 +37,7 @@ one_more source plan changes text change line is safe = record {
 -- the plan that was judged safe with a change is the one that the checker accepted
 pub if_safe : (source : Source) (plan : Declared) (change : Change) (pasted : List ℕ) (changed : Declared)
     → (checked : Checked) (line : List ℕ) → IsChanged source plan change pasted changed
-    → IsJudgement changed (Safe checked) → IsLine plan (reach_in checked) change pasted line
+    → IsJudgement changed (Safe checked) → IsLine change pasted line
     → IsSafeLine source plan change line
 if_safe source plan change pasted changed checked line is known told =
     let accepted : IsCheckedFor changed checked = known.safe in record {

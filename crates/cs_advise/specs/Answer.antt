@@ -2,7 +2,7 @@
 use Rattle.std.specs.Prelude.{◌≡◌, ◌≢◌, ◌⊎◌, ℕ, List, [], ◌++◌, ◌∷◌, codes, flat_map}
 use Rattle.std.specs.Prelude.{Option, Result}
 use Rattle.cs_anacrontab.specs.Anacrontab.{Table as JobTable}
-use Rattle.cs_args.specs.CommandLine.{AskedAdvise, AskedJudge}
+use Rattle.cs_args.specs.Asked.{AskedAdvise, AskedJudge}
 use Rattle.cs_counterexample.specs.ShownText.{shown_text}
 use Rattle.cs_counterexample.specs.declared.shown.Shown.{Shown}
 use Rattle.cs_crontab.specs.Crontab.{Table}
@@ -35,32 +35,27 @@ pub record TellsRooms (plan : Declared) (head out : List ℕ) : Type 0 where
   pub each : AreRooms plan rooms
   pub told : out ≡ head ++ room_text plan rooms
 
--- the line of what is broken first
-abbrev pub shown_line : Declared → Shown → List ℕ
-shown_line plan shown = shown_text plan shown ++ 10 ∷ []
+-- the line of what is broken first, and where advice is asked, comments below it that tell it
+abbrev pub IsBrokenText : Question → Declared → Shown → List ℕ → Type 0
+IsBrokenText Rooms plan shown text = text ≡ shown_text plan shown ++ 10 ∷ []
+IsBrokenText (Advice within) plan shown text = (story : List (List ℕ))
+    × (text ≡ (shown_text plan shown ++ 10 ∷ []) ++ flat_map comment story)
 
--- that line, and comments below it that tell what is broken
-abbrev pub IsBreachText : Declared → Shown → List ℕ → Type 0
-IsBreachText plan shown text =
-    (story : List (List ℕ)) × (text ≡ shown_line plan shown ++ flat_map comment story)
-
--- a line for each change that makes the plan safe, and status 0; or there is none, and what is
--- broken first, and status 1
-pub record TellsAdvice (source : Source) (plan : Declared) (shown : Shown) (status : ℕ)
-    (out : List ℕ) : Type 0 where
-  pub changes : List Change
-  pub told : ((status ≡ 0) × (changes ≢ []) × IsAdvice source plan changes out)
-      ⊎ ((status ≡ 1) × (changes ≡ []) × IsBreachText plan shown out)
+-- a line for each change that makes the plan safe, and status 0
+abbrev pub TellsAdvice : Source → Declared → ℕ → List ℕ → Type 0
+TellsAdvice source plan status out =
+    (changes : List Change) × (status ≡ 0) × (changes ≢ []) × IsAdvice source plan changes out
 
 -- what stands before the rooms of a safe plan
 abbrev pub head_of : Question → List ℕ
 head_of Rooms = []
 head_of (Advice within) = codes "safe\n"
 
--- what is printed of an unsafe plan: advice, or what it breaks first
+-- what is printed of an unsafe plan: advice, where it is asked, or what is broken first
 abbrev pub IsTold : Question → Source → Declared → Shown → ℕ → List ℕ → Type 0
-IsTold Rooms source plan shown status out = (status ≡ 1) × (out ≡ shown_line plan shown)
-IsTold (Advice within) source plan shown status out = TellsAdvice source plan shown status out
+IsTold question source plan shown status out =
+    ((question ≢ Rooms) × TellsAdvice source plan status out)
+    ⊎ ((status ≡ 1) × IsBrokenText question plan shown out)
 
 -- nothing is known, and whether that is since memory ran out
 abbrev pub unknown_status : Outcome → ℕ

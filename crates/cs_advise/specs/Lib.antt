@@ -4,7 +4,6 @@ pub mod Room
 pub mod Replaced
 pub mod Edit
 pub mod Change
-pub mod Told
 pub mod Advice
 pub mod Answer
 pub mod Changed

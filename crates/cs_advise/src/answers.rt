@@ -1,13 +1,13 @@
 //! What is answered of a plan that was judged.
 ghost use Rattle.std.specs.Prelude.{◌≡◌, IfOk};
 ghost use Rattle.cs_files.specs.Response.{status_of};
-ghost use Rattle.cs_judge.specs.Called.{IsCalledSafe};
 ghost use Rattle.cs_counterexample.specs.Shown.{IsTellable};
+ghost use Rattle.cs_judge.specs.Called.{IsCalledSafe};
 ghost use Rattle.cs_plan.specs.Plan.{as_plan};
 ghost use Rattle.cs_judge.specs.Judged.{IsJudgement};
 ghost use Rattle.cs_advise.specs.Advice.{IsAdvice};
-ghost use Rattle.cs_advise.specs.Answer.{IsAdvised, IsPrinted, IsTold, TellsAdvice, TellsRooms};
-ghost use Rattle.cs_advise.specs.Answer.{IsBreachText, head_of, shown_line, unknown_status};
+ghost use Rattle.cs_advise.specs.Answer.{IsAdvised, IsBrokenText, IsPrinted, IsTold, TellsRooms};
+ghost use Rattle.cs_advise.specs.Answer.{head_of};
 
 use crate::advice::{Advice, told_changes};
 use crate::breach::jobs_of;
@@ -44,20 +44,6 @@ struct Reply {
     notes: Vec<u8>,
 }
 
-impl Reply {
-    /// With no notes beside it.
-    fn alone(alloc: Global, status: Status, text: Vec<u8>) -> Reply
-        ensures status { result.status ≡ status }
-        ensures text { result.text.items ≡ text.items }
-    {
-        Reply {
-            status,
-            text,
-            notes: Vec::new(alloc),
-        }
-    }
-}
-
 /// A line for the room of each job of a safe plan, behind what stands before them.
 fn rooms_text<R: Threads + Sync>(
     rt: &R,
@@ -74,28 +60,21 @@ fn rooms_text<R: Threads + Sync>(
     Ok(text)
 }
 
-/// The line of what is broken first.
-fn shown_line(alloc: Global, plan: &Plan, shown: &Shown) -> Result<Vec<u8>, AllocError>
-    requires { IsTellable (as_plan plan.now) shown.now }
-    ensures { IfOk result (λ text. text.items ≡ shown_line plan.now shown.now) }
-{
-    let mut text = shown_text(alloc, plan, shown)?.into_vec();
-    text.extend_from_slice(b"\n")?;
-    Ok(text)
-}
-
-/// That line, and below it what is broken.
-fn breach_text(
+/// The line of what is broken first, and below it, where advice is asked, what is broken.
+fn broken_text(
     alloc: Global,
     plan: &Plan,
-    shown: &Shown,
-    breach: &Breach,
+    question: Question,
+    broken: (&Shown, &Breach),
 ) -> Result<Vec<u8>, AllocError>
-    requires { IsTellable (as_plan plan.now) shown.now }
-    ensures { IfOk result (λ text. IsBreachText plan.now shown.now text.items) }
+    requires { IsTellable (as_plan plan.now) broken.0.now }
+    ensures { IfOk result (λ text. IsBrokenText question plan.now broken.entry.0.now text.items) }
 {
-    let mut text = shown_line(alloc, plan, shown)?;
-    push_broken(alloc, &mut text, plan, *shown, breach.minute)?;
+    let mut text = shown_text(alloc, plan, broken.0)?.into_vec();
+    text.extend_from_slice(b"\n")?;
+    if let Question::Advice(_) = question {
+        push_broken(alloc, &mut text, plan, *broken.0, broken.1.minute)?;
+    }
     Ok(text)
 }
 
@@ -123,65 +102,8 @@ fn advice_on<R: Threads + Sync>(
     told_changes(rt, alloc, source, plan, changes)
 }
 
-/// What an unsafe plan breaks first, as this text says it.
-fn told_breach(
-    alloc: Global,
-    plan: &Plan,
-    places: &[Place],
-    shown: &Shown,
-    text: Vec<u8>,
-) -> Result<Reply, AllocError>
-    ensures { IfOk result
-        (λ told. (status_of told.status ≡ 1) × (told.text.items ≡ text.items)) }
-{
-    let notes = shown_places(alloc, plan, places, shown)?;
-    Ok(Reply {
-        status: Status::Refused,
-        text,
-        notes,
-    })
-}
-
-/// A line for each change that makes an unsafe plan safe; or what it breaks first, where none was
-/// found.
-fn advice_text<R: Threads + Sync>(
-    rt: &R,
-    alloc: Global,
-    source: &Source,
-    plan: &Plan,
-    places: &[Place],
-    broken: (&Shown, &Breach),
-    within: u64,
-) -> Result<Reply, AllocError>
-    requires { IsTellable (as_plan plan.now) broken.0.now }
-    ensures { IfOk result (λ told. TellsAdvice source.now plan.now broken.entry.0.now
-        (status_of told.status) told.text.items) }
-{
-    let (shown, breach) = broken;
-    let advice = advice_on(rt, alloc, source, plan, broken, within)?;
-    if advice.changes.is_empty() {
-        let text = breach_text(alloc, plan, shown, breach)?;
-        return told_breach(alloc, plan, places, shown, text);
-    }
-    let notes = changed_places(alloc, plan, places, advice.changes.as_slice())?;
-    Ok(Reply {
-        status: Status::Done,
-        text: advice.text,
-        notes,
-    })
-}
-
-/// What stands before the rooms of a safe plan.
-fn head_of(question: Question) -> &'static [u8]
-    ensures { result.now ≡ head_of question }
-{
-    match question {
-        Question::Rooms => b"",
-        Question::Advice(_) => b"safe\n",
-    }
-}
-
-/// What is told of an unsafe plan.
+/// A line for each change that makes an unsafe plan safe, where advice is asked; or what it breaks
+/// first, where none was found or asked.
 fn told<R: Threads + Sync>(
     rt: &R,
     alloc: Global,
@@ -195,22 +117,33 @@ fn told<R: Threads + Sync>(
     ensures { IfOk result (λ told. IsTold question source.now plan.now broken.entry.0.now
         (status_of told.status) told.text.items) }
 {
-    match question {
-        Question::Rooms => {
-            let text = shown_line(alloc, plan, broken.0)?;
-            told_breach(alloc, plan, places, broken.0, text)
+    if let Question::Advice(within) = question {
+        let advice = advice_on(rt, alloc, source, plan, broken, within)?;
+        if !advice.changes.is_empty() {
+            let notes = changed_places(alloc, plan, places, advice.changes.as_slice())?;
+            return Ok(Reply {
+                status: Status::Done,
+                text: advice.text,
+                notes,
+            });
         }
-        Question::Advice(within) => advice_text(rt, alloc, source, plan, places, broken, within),
     }
+    let notes = shown_places(alloc, plan, places, broken.0)?;
+    let text = broken_text(alloc, plan, question, broken)?;
+    Ok(Reply {
+        status: Status::Refused,
+        text,
+        notes,
+    })
 }
 
-/// The status where nothing is known.
-fn unknown_status(outcome: Outcome) -> Status
-    ensures { status_of result ≡ unknown_status outcome }
+/// What stands before the rooms of a safe plan.
+fn head_of(question: Question) -> &'static [u8]
+    ensures { result.now ≡ head_of question }
 {
-    match outcome {
-        Outcome::NoMemory => Status::NoMemory,
-        Outcome::Safe | Outcome::Unsafe | Outcome::Unknown => Status::Unknown,
+    match question {
+        Question::Rooms => b"",
+        Question::Advice(_) => b"safe\n",
     }
 }
 
@@ -228,17 +161,31 @@ fn printed<R: Threads + Sync>(
     ensures { IfOk result (λ told. IsPrinted question source.now plan.now judged.now
         (status_of told.status) told.text.items) }
 {
+    let notes = Vec::new(alloc);
     match judged {
         Judged::Safe(_) => {
             let text = rooms_text(rt, alloc, plan, head_of(question))?;
-            Ok(Reply::alone(alloc, Status::Done, text))
+            let status = Status::Done;
+            Ok(Reply {
+                status,
+                text,
+                notes,
+            })
         }
         Judged::Unsafe(_, shown, breach) => {
             told(rt, alloc, source, plan, places, question, (shown, breach))
         }
         Judged::Unknown(_, _) => {
             let (outcome, text) = answer(alloc, plan, places, Wanted::Verdict, judged)?;
-            Ok(Reply::alone(alloc, unknown_status(outcome), text))
+            let status = match outcome {
+                Outcome::NoMemory => Status::NoMemory,
+                Outcome::Safe | Outcome::Unsafe | Outcome::Unknown => Status::Unknown,
+            };
+            Ok(Reply {
+                status,
+                text,
+                notes,
+            })
         }
     }
 }

@@ -1,9 +1,6 @@
 //! The plan with a single change.
-ghost use Rattle.std.specs.Prelude.{◌≡◌, ◌≢◌, ◌↔◌, ℕ, List, IfOk, IfSome, IsTrue, Ok, slice_index_or};
-ghost use Rattle.cs_crontab.specs.Faults.{IsCrontab};
+ghost use Rattle.std.specs.Prelude.{◌≡◌, ◌≢◌, ◌↔◌, IfOk, IfSome, IsTrue, Ok, slice_index_or};
 ghost use Rattle.cs_crontab.specs.declared.table.When.TheVariants.{At};
-ghost use Rattle.cs_decl.specs.Join.{joined};
-ghost use Rattle.cs_decl.specs.Meaning.{declared_by};
 ghost use Rattle.cs_plan.specs.Plan.{no_command};
 ghost use Rattle.cs_advise.specs.Change.{AreMoved, IsChanged, IsEdited, IsMoved, IsMovedLine};
 ghost use Rattle.cs_advise.specs.Change.{IsPlanOf, IsShifted, shift_of};
@@ -15,7 +12,7 @@ use crate::edit::edit_of;
 use crate::later::is_later;
 use crate::shifting::line_span;
 use crate::source::Source;
-use crate::text::with_line;
+use crate::text::replaced;
 use cs_crontab::{Line, TableFault, When, read_crontab};
 use cs_decl::{join, read_declarations};
 use cs_plan::{DeclError, Plan};
@@ -72,15 +69,6 @@ fn is_shifted(shift: Shift, old: &When, new: &When) -> bool
     }
 }
 
-/// Whether it is the same command, on the same line, and its starts are shifted so.
-fn is_moved_line(shift: Shift, old: &Line, new: &Line) -> bool
-    ensures { IsTrue result → IsMovedLine shift old.now new.now }
-{
-    old.number() == new.number()
-        && old.command() == new.command()
-        && is_shifted(shift, old.when(), new.when())
-}
-
 /// How a change shifts the starts of a cron job.
 fn shift_of(change: &Change, job: usize) -> Shift
     ensures { result ≡ shift_of change.now job }
@@ -93,7 +81,7 @@ fn shift_of(change: &Change, job: usize) -> Shift
     }
 }
 
-/// Whether a change moves a command so.
+/// Whether a change moves a command so: it is the same, on the same line.
 fn is_moved_at(change: &Change, old: &[Line], new: &[Line], job: usize) -> bool
     ensures { IsTrue result → IsMovedLine (shift_of change.now job)
         (slice_index_or old.now job no_command) (slice_index_or new.now job no_command) }
@@ -104,7 +92,9 @@ fn is_moved_at(change: &Change, old: &[Line], new: &[Line], job: usize) -> bool
     let Some(new) = new.get(job) else {
         return false;
     };
-    is_moved_line(shift_of(change, job), old, new)
+    old.number() == new.number()
+        && old.command() == new.command()
+        && is_shifted(shift_of(change, job), old.when(), new.when())
 }
 
 /// Whether a change moves the commands so.
@@ -135,12 +125,12 @@ fn with_start(
     let Some(line) = plan.crontab().lines().get(usize::from(start.job)) else {
         return Ok(None);
     };
-    with_line(
-        alloc,
-        text,
-        line_span(text, line.number()),
-        start.line.as_slice(),
-    )
+    let span = line_span(text, line.number());
+    let old = span.bytes(text);
+    if old.contains(&b'\n') {
+        return Ok(None);
+    }
+    replaced(alloc, text, span.from, old, start.line.as_slice())
 }
 
 /// The plan of another text of the table, if that can be read, fits the declarations, and moves the

@@ -1,8 +1,7 @@
 //! Declarations in which one member has another value, and what is pasted to get them.
-ghost use Rattle.std.specs.Prelude.{◌≡◌, ◌++◌, IfOk, IfSome, IsSome, IsTrue, false, map};
+ghost use Rattle.std.specs.Prelude.{◌≡◌, ◌++◌, IfOk, IfSome, IsTrue, map};
 ghost use Rattle.cs_advise.specs.Edit.{HasOther, IsEntry, IsEntryPut, IsMemberPut, IsPut};
 ghost use Rattle.cs_advise.specs.Edit.{blank_control, member_text, mode_text};
-ghost use Rattle.cs_json.specs.Bytes.{json_of};
 
 use crate::change::Member;
 use crate::text::{joined, replaced};
@@ -93,26 +92,6 @@ fn entry_of(
 
 // ---- what is put there
 
-/// No, unless memory ran out.
-fn no(misread: Misread) -> Result<bool, AllocError>
-    ensures { IfOk result (λ is. is ≡ false) }
-{
-    match misread {
-        Misread::Memory => Err(AllocError),
-        Misread::Fault(_) => Ok(false),
-    }
-}
-
-/// Whether a text is one JSON value.
-fn is_value(alloc: Global, text: &[u8]) -> Result<bool, AllocError>
-    ensures { IfOk result (λ is. IsTrue is → IsSome (json_of text.now)) }
-{
-    match parse(alloc, text) {
-        Ok(_) => Ok(true),
-        Err(misread) => no(misread),
-    }
-}
-
 /// A member, as JSON has it.
 fn member_text(alloc: Global, name: &str, value: &[u8]) -> Result<Vec<u8>, AllocError>
     ensures { IfOk result (λ text. text.items ≡ member_text name.now value.now) }
@@ -143,10 +122,11 @@ fn with_value(
         let put = joined(alloc, b", ".as_slice(), member.as_slice(), part)?;
         return replaced(alloc, text, span.from, part, put.as_slice());
     }
-    if !is_value(alloc, part)? {
-        return Ok(None);
+    match parse(alloc, part) {
+        Ok(_) => replaced(alloc, text, span.from, part, value),
+        Err(Misread::Memory) => Err(AllocError),
+        Err(Misread::Fault(_)) => Ok(None),
     }
-    replaced(alloc, text, span.from, part, value)
 }
 
 /// Whether a text is an entry.
@@ -155,7 +135,8 @@ fn is_entry(alloc: Global, text: &[u8]) -> Result<bool, AllocError>
 {
     let value = match parse(alloc, text) {
         Ok(value) => value,
-        Err(misread) => return no(misread),
+        Err(Misread::Memory) => return Err(AllocError),
+        Err(Misread::Fault(_)) => return Ok(false),
     };
     match CronEntry::from_json(alloc, &value) {
         Ok(_) => return Ok(true),
@@ -164,24 +145,18 @@ fn is_entry(alloc: Global, text: &[u8]) -> Result<bool, AllocError>
     }
     match AnacronEntry::from_json(alloc, &value) {
         Ok(_) => Ok(true),
-        Err(misread) => no(misread),
+        Err(Misread::Memory) => Err(AllocError),
+        Err(Misread::Fault(_)) => Ok(false),
     }
 }
 
-/// A byte as a blank, if it is a control byte.
-fn blank_control(byte: u8) -> u8
-    ensures { result ≡ blank_control byte }
-{
-    if byte < 32 { b' ' } else { byte }
-}
-
-/// The text on one line.
+/// The text on one line: a control byte as a blank.
 fn on_one_line(alloc: Global, text: &[u8]) -> Result<Vec<u8>, AllocError>
     ensures { IfOk result (λ line. line.items ≡ map blank_control text.now) }
 {
     let mut line = Vec::new(alloc);
     for byte in text {
-        line.push(blank_control(*byte))?;
+        line.push(if *byte < 32 { b' ' } else { *byte })?;
     }
     Ok(line)
 }

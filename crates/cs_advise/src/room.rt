@@ -34,7 +34,7 @@ pub struct Room {
 }
 
 /// Whether the plan is called safe with another longest time of a job.
-pub(crate) fn is_safe_with<R: Threads + Sync>(
+fn is_safe_with<R: Threads + Sync>(
     rt: &R,
     alloc: Global,
     plan: &Plan,
@@ -105,29 +105,8 @@ fn halved<R: Threads + Sync>(
     Ok(low)
 }
 
-/// The greatest longest time that is found for a job: that which may be declared is tried first,
-/// since many jobs have it, and then strides from the declared one, of which the last is halved.
-fn greatest<R: Threads + Sync>(
-    rt: &R,
-    alloc: Global,
-    plan: &Plan,
-    job: u16,
-    max: u16,
-) -> Result<u16, AllocError>
-    requires there { job < length plan.now.jobs }
-    requires in_range { (1 ≤ max) × (max ≤ MAX_MINUTES) }
-    requires safe { IsCalledSafe (with_max plan.now job max) }
-    ensures more { IfOk result (λ most. max ≤ most) }
-    ensures safe { IfOk result (λ most. IsCalledSafe (with_max plan.now job most)) }
-{
-    if is_safe_with(rt, alloc, plan, job, MAX_MINUTES)? {
-        return Ok(MAX_MINUTES);
-    }
-    let (low, high) = by_strides(rt, alloc, plan, job, max)?;
-    halved(rt, alloc, plan, job, low, high)
-}
-
-/// The room of a job of a safe plan.
+/// The room of a job of a safe plan: the longest time that may be declared is tried first, since
+/// many jobs have it, and then strides from the declared one, of which the last is halved.
 #[tactic(auto, using(crate::proofs::Own::safe_with_own))]
 pub(crate) fn room_of<R: Threads + Sync>(
     rt: &R,
@@ -141,7 +120,12 @@ pub(crate) fn room_of<R: Threads + Sync>(
     ensures room { IfOk result (IsRoom plan.now) }
 {
     let max = plan.job_at(job).max();
-    let most = greatest(rt, alloc, plan, job, max)?;
+    let most = if is_safe_with(rt, alloc, plan, job, MAX_MINUTES)? {
+        MAX_MINUTES
+    } else {
+        let (low, high) = by_strides(rt, alloc, plan, job, max)?;
+        halved(rt, alloc, plan, job, low, high)?
+    };
     let gap = gap_of(plan, job);
     Ok(Room {
         job,

@@ -1,5 +1,5 @@
 //! The room of each job of a plan.
-ghost use Rattle.std.specs.Prelude.{◌≡◌, ◌<◌, ◌≤◌, ◌++◌, All, IfOk, OnOk, flat_map, length, map};
+ghost use Rattle.std.specs.Prelude.{◌≡◌, ◌<◌, ◌≤◌, ◌++◌, All, IfOk, OnOk, length, map};
 ghost use Rattle.std.specs.List.{range_with_len};
 ghost use Rattle.cs_judge.specs.Called.{IsCalledSafe};
 ghost use Rattle.cs_advise.specs.Room.{AreRooms, IsRoom, declared_text, gap_text, limit_mark};

@@ -52,17 +52,16 @@ fn minutes_of(change: &Change) -> u16 {
     }
 }
 
-/// The number halfway between two.
-fn halfway(low: u16, high: u16) -> u16 {
-    low.saturating_add(high.saturating_sub(low) / 2)
-}
-
-/// Adds the catch-up hours between two minutes of the day, if there are some.
-fn push_hours(changes: &mut Vec<Change>, from: u16, to: u16) -> Result<(), AllocError> {
-    if let Some(hours) = Hours::new(u64::from(from), u64::from(to)) {
-        changes.push(Change::Member(Member::Hours(hours)))?;
-    }
-    Ok(())
+/// A member of which values are tried.
+#[derive(Clone, Copy)]
+enum Tried {
+    /// The longest time of a job.
+    Max(u16),
+    Capacity,
+    /// The first of the catch-up hours.
+    From,
+    /// The end of the catch-up hours.
+    To,
 }
 
 impl<R: Threads + Sync> Search<'_, R> {
@@ -89,27 +88,21 @@ impl<R: Threads + Sync> Search<'_, R> {
         }
     }
 
-    /// The starts of two jobs later or earlier, if fields can say them.
-    fn both(&self, jobs: (u16, u16), shifts: (Shift, Shift)) -> Result<Option<Change>, AllocError> {
-        let Some(one) = self.shifted(jobs.0, shifts.0)? else {
-            return Ok(None);
-        };
-        match self.shifted(jobs.1, shifts.1)? {
-            Some(other) => Ok(Some(Change::Both(one, other))),
-            None => Ok(None),
-        }
-    }
-
-    /// Adds the starts of two jobs if the plan is safe with them, and tells whether it is.
+    /// Adds the starts of two jobs later or earlier, if fields can say them and the plan is safe with
+    /// them, and tells whether it is.
     fn add_both(
         &self,
         changes: &mut Vec<Change>,
         jobs: (u16, u16),
         shifts: (Shift, Shift),
     ) -> Result<bool, AllocError> {
-        let Some(change) = self.both(jobs, shifts)? else {
+        let Some(one) = self.shifted(jobs.0, shifts.0)? else {
             return Ok(false);
         };
+        let Some(other) = self.shifted(jobs.1, shifts.1)? else {
+            return Ok(false);
+        };
+        let change = Change::Both(one, other);
         let is_safe = self.is_safe(&change)?;
         if is_safe {
             changes.push(change)?;
@@ -175,33 +168,18 @@ impl<R: Threads + Sync> Search<'_, R> {
         Ok(())
     }
 
-    /// Whether the plan is safe with the start of a job later or earlier.
-    fn is_safe_start(&self, job: u16, shift: Shift) -> Result<bool, AllocError> {
+    /// The start of a job later or earlier, if the plan is safe with it.
+    fn safe_start(&self, job: u16, shift: Shift) -> Result<Option<Change>, AllocError> {
         let Some(start) = self.shifted(job, shift)? else {
-            return Ok(false);
+            return Ok(None);
         };
         let change = Change::Start(start);
-        self.is_safe(&change)
+        let is_safe = self.is_safe(&change)?;
+        Ok(if is_safe { Some(change) } else { None })
     }
 
-    /// The shift if the plan is safe with it, or one by up to four minutes less if that does too.
-    fn nearest(&self, job: u16, shift: Shift) -> Result<Option<Shift>, AllocError> {
-        if !self.is_safe_start(job, shift)? {
-            return Ok(None);
-        }
-        let minutes = shift.minutes();
-        if minutes <= FINE {
-            return Ok(Some(shift));
-        }
-        for fewer in minutes.saturating_sub(FINE - 1)..minutes {
-            if self.is_safe_start(job, shift.by(fewer))? {
-                return Ok(Some(shift.by(fewer)));
-            }
-        }
-        Ok(Some(shift))
-    }
-
-    /// Adds the start of a job later or earlier, unless it has one.
+    /// Adds the start of a job later or earlier, unless it has one, if the plan is safe with it; or
+    /// one by up to four minutes less, if it is with that too.
     fn add_start(
         &self,
         changes: &mut Vec<Change>,
@@ -211,12 +189,19 @@ impl<R: Threads + Sync> Search<'_, R> {
         if is_found(changes.as_slice(), job, shift) {
             return Ok(());
         }
-        let Some(nearest) = self.nearest(job, shift)? else {
+        let Some(start) = self.safe_start(job, shift)? else {
             return Ok(());
         };
-        if let Some(start) = self.shifted(job, nearest)? {
-            changes.push(Change::Start(start))?;
+        let minutes = shift.minutes();
+        if FINE < minutes {
+            for fewer in minutes.saturating_sub(FINE - 1)..minutes {
+                if let Some(nearer) = self.safe_start(job, shift.by(fewer))? {
+                    changes.push(nearer)?;
+                    return Ok(());
+                }
+            }
         }
+        changes.push(start)?;
         Ok(())
     }
 
@@ -234,22 +219,52 @@ impl<R: Threads + Sync> Search<'_, R> {
         Ok(())
     }
 
-    /// Adds the greatest smaller longest time of a job with which the plan is safe.
-    fn add_max(&self, changes: &mut Vec<Change>, job: u16) -> Result<(), AllocError> {
-        let mut low = 0u16;
-        let mut high = self.plan.job_at(job).max();
+    /// Another value of a member, if there can be one.
+    fn with_value(&self, tried: Tried, value: u16) -> Option<Member> {
+        let hours = self.plan.hours();
+        let (from, to) = match tried {
+            Tried::Max(_) if value == 0 => return None,
+            Tried::Max(job) => return Some(Member::Max(job, value)),
+            Tried::Capacity => return Some(Member::Capacity(u8::try_from(value).ok()?)),
+            Tried::From => (value, hours.to()),
+            Tried::To => (hours.from(), value),
+        };
+        match Hours::new(u64::from(from), u64::from(to)) {
+            Some(hours) => Some(Member::Hours(hours)),
+            None => None,
+        }
+    }
+
+    /// Adds the value of a member with which the plan is safe that is nearest to one with which it
+    /// isn't, by halving what is between both.
+    fn add_value(
+        &self,
+        changes: &mut Vec<Change>,
+        tried: Tried,
+        safe: u16,
+        unsafe_value: u16,
+    ) -> Result<(), AllocError> {
+        let (mut near, mut far) = (safe, unsafe_value);
         for _ in 0..16 {
-            let middle = halfway(low, high);
-            if middle > low {
-                if self.is_safe(&Change::Member(Member::Max(job, middle)))? {
-                    low = middle;
+            let middle = if near < far {
+                near.saturating_add(far.saturating_sub(near) / 2)
+            } else {
+                near.saturating_sub(near.saturating_sub(far) / 2)
+            };
+            if middle != near {
+                let is_safe = match self.with_value(tried, middle) {
+                    Some(member) => self.is_safe(&Change::Member(member))?,
+                    None => false,
+                };
+                if is_safe {
+                    near = middle;
                 } else {
-                    high = middle;
+                    far = middle;
                 }
             }
         }
-        if low > 0 {
-            changes.push(Change::Member(Member::Max(job, low)))?;
+        if let Some(member) = self.with_value(tried, near) {
+            changes.push(Change::Member(member))?;
         }
         Ok(())
     }
@@ -268,73 +283,17 @@ impl<R: Threads + Sync> Search<'_, R> {
     /// Adds the least greater capacity with which the plan is safe. The greatest is tried first:
     /// where that doesn't help, none does.
     fn add_capacity(&self, changes: &mut Vec<Change>) -> Result<(), AllocError> {
-        let mut low = self.plan.capacity();
-        let mut high = MAX_CAPACITY;
-        if !self.is_safe(&Change::Member(Member::Capacity(high)))? {
+        if !self.is_safe(&Change::Member(Member::Capacity(MAX_CAPACITY)))? {
             return Ok(());
         }
-        for _ in 0..8 {
-            let middle = low.saturating_add(high.saturating_sub(low) / 2);
-            if middle > low {
-                if self.is_safe(&Change::Member(Member::Capacity(middle)))? {
-                    high = middle;
-                } else {
-                    low = middle;
-                }
-            }
-        }
-        changes.push(Change::Member(Member::Capacity(high)))?;
-        Ok(())
-    }
-
-    /// Whether the plan is safe with the catch-up hours between two minutes of the day.
-    fn is_safe_in(&self, from: u16, to: u16) -> Result<bool, AllocError> {
-        match Hours::new(u64::from(from), u64::from(to)) {
-            Some(hours) => self.is_safe(&Change::Member(Member::Hours(hours))),
-            None => Ok(false),
-        }
-    }
-
-    /// Adds the most catch-up hours that end earlier and with which the plan is safe.
-    fn add_shorter_hours(&self, changes: &mut Vec<Change>) -> Result<(), AllocError> {
-        let from = self.plan.hours().from();
-        let mut low = from;
-        let mut high = self.plan.hours().to();
-        for _ in 0..16 {
-            let middle = halfway(low, high);
-            if middle > low {
-                if self.is_safe_in(from, middle)? {
-                    low = middle;
-                } else {
-                    high = middle;
-                }
-            }
-        }
-        push_hours(changes, from, low)
-    }
-
-    /// Adds the most catch-up hours that begin later and with which the plan is safe.
-    fn add_later_hours(&self, changes: &mut Vec<Change>) -> Result<(), AllocError> {
-        let to = self.plan.hours().to();
-        let mut low = self.plan.hours().from();
-        let mut high = to;
-        for _ in 0..16 {
-            let middle = halfway(low, high.saturating_add(1));
-            if middle < high {
-                if self.is_safe_in(middle, to)? {
-                    high = middle;
-                } else {
-                    low = middle;
-                }
-            }
-        }
-        push_hours(changes, high, to)
+        let (safe, low) = (u16::from(MAX_CAPACITY), u16::from(self.plan.capacity()));
+        self.add_value(changes, Tried::Capacity, safe, low)
     }
 
     /// Adds the declarations of jobs with which the plan is safe.
     fn add_declared(&self, changes: &mut Vec<Change>, jobs: &[u16]) -> Result<(), AllocError> {
         for job in jobs {
-            self.add_max(changes, *job)?;
+            self.add_value(changes, Tried::Max(*job), 0, self.plan.job_at(*job).max())?;
         }
         for job in jobs {
             self.add_modes(changes, *job)?;
@@ -360,8 +319,9 @@ impl<R: Threads + Sync> Search<'_, R> {
         self.add_declared(changes, jobs)?;
         self.add_capacity(changes)?;
         if !self.plan.anacrontab().lines().is_empty() {
-            self.add_shorter_hours(changes)?;
-            self.add_later_hours(changes)?;
+            let (from, to) = (self.plan.hours().from(), self.plan.hours().to());
+            self.add_value(changes, Tried::To, from, to)?;
+            self.add_value(changes, Tried::From, to, from)?;
         }
         if changes.is_empty() {
             return self.add_pair(changes, jobs, within);

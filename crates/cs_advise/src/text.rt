@@ -1,7 +1,6 @@
-//! A text with another part, or another line.
-ghost use Rattle.std.specs.Prelude.{◌≡◌, ◌==◌, ◌++◌, ℕ, List, IfOk, IfSome, false};
-ghost use Rattle.std.specs.List.{list_any};
-ghost use Rattle.cs_advise.specs.Replaced.{IsOtherLine, IsReplaced};
+//! A text with another part.
+ghost use Rattle.std.specs.Prelude.{◌≡◌, ◌++◌, IfOk, IfSome};
+ghost use Rattle.cs_advise.specs.Replaced.{IsReplaced};
 
 use cs_diagnostics::Span;
 use std::alloc::{AllocError, Global};
@@ -38,21 +37,4 @@ pub(crate) fn replaced(
         return Ok(None);
     }
     Ok(Some(joined(alloc, front, put, back)?))
-}
-
-/// The text with another line, which stood at a span.
-pub(crate) fn with_line(
-    alloc: Global,
-    text: &[u8],
-    span: Span,
-    line: &[u8],
-) -> Result<Option<Vec<u8>>, AllocError>
-    ensures { IfOk result
-        (λ found. IfSome found (λ new. IsOtherLine text.now line.now new.items)) }
-{
-    let old = span.bytes(text);
-    if old.contains(&b'\n') {
-        return Ok(None);
-    }
-    replaced(alloc, text, span.from, old, line)
 }

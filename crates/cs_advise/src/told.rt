@@ -1,91 +1,63 @@
 //! The line that tells a change.
-ghost use Rattle.std.specs.Prelude.{◌≡◌, ◌++◌, ℕ, List, IfOk, OnOk, codes, map};
-ghost use Rattle.cs_history.specs.declared.mode.Mode.TheVariants.{Wait};
-ghost use Rattle.cs_judge.specs.Called.{reach_in};
-ghost use Rattle.cs_advise.specs.Told.{IsLine, IsStartLine, TellReach, minutes_text, seen, wait_words};
-ghost use Rattle.cs_advise.specs.declared.change.Member.TheVariants.{Mode as OtherMode};
+ghost use Rattle.std.specs.Prelude.{◌≡◌, ◌++◌, IfOk, OnOk, map};
+ghost use Rattle.cs_advise.specs.Advice.{EndsIn, IsLine, seen};
 
 use crate::change::{Change, Member, Shift, Start};
 use crate::label::push_label;
 use cs_check::Checked;
-use cs_civil::push_number;
 use cs_history::Mode;
 use cs_judge::reach_in;
 use cs_plan::Plan;
 use std::alloc::{AllocError, Global};
 
-/// Adds `1 minute` or `N minutes`.
-#[tactic(auto, unfolding(crate::specs::Told::minutes_text))]
-fn push_minutes(alloc: Global, text: &mut Vec<u8>, minutes: u16) -> Result<(), AllocError>
-    ensures { OnOk result (text.new.items ≡ text.old.items ++ minutes_text minutes) }
-{
-    if minutes == 1 {
-        return text.extend_from_slice(b"1 minute");
-    }
-    push_number(alloc, text, u128::from(minutes))?;
-    text.extend_from_slice(b" minutes")
-}
-
-/// Adds how late a run of so many minutes may start and end, by its reach.
-#[tactic(auto, unfolding(crate::specs::Told::wait_words))]
-fn push_wait_words(
-    alloc: Global,
-    text: &mut Vec<u8>,
-    between: &[u8],
-    max: u16,
-    reach: u16,
-) -> Result<(), AllocError>
-    ensures { OnOk result (text.new.items ≡ text.old.items ++ wait_words between.now max reach) }
-{
-    push_minutes(alloc, text, reach.saturating_sub(max))?;
-    text.extend_from_slice(between)?;
-    push_minutes(alloc, text, reach)
+/// What so many minutes are called.
+fn unit(minutes: u16) -> &'static str {
+    if minutes == 1 { "minute" } else { "minutes" }
 }
 
 /// What a mode is, how cron keeps it, and what becomes of a run.
-fn about(mode: Mode) -> &'static [u8] {
+fn about(mode: Mode) -> &'static str {
     match mode {
-        Mode::Plain => b", mode none, so that its runs take no lock: ",
+        Mode::Plain => ", mode none, so that its runs take no lock: ",
         Mode::Skip => {
-            b", mode skip, which cron keeps only by flock -n in the command, so that no run may \
+            ", mode skip, which cron keeps only by flock -n in the command, so that no run may \
             find the lock held: "
         }
         Mode::Try => {
-            b", mode try, which cron keeps only by flock -n in the command, so that a run that \
+            ", mode try, which cron keeps only by flock -n in the command, so that a run that \
             finds the lock held is left out: "
         }
         Mode::Wait =>
-            b", mode wait, which cron keeps only by flock in the command, so that a run may start up to ",
+            ", mode wait, which cron keeps only by flock in the command, so that a run may start up to ",
         Mode::Shared => {
-            b", mode shared, which cron keeps only by flock -s in the command, so that a run may \
+            ", mode shared, which cron keeps only by flock -s in the command, so that a run may \
             start late, and beside others that share the lock: "
         }
     }
 }
 
 /// The name of a job, and words behind it.
-fn named(alloc: Global, plan: &Plan, job: u16, words: &[u8]) -> Result<Vec<u8>, AllocError> {
+fn named(alloc: Global, plan: &Plan, job: u16, words: &str) -> Result<Vec<u8>, AllocError> {
     let mut text = Vec::new(alloc);
     push_label(alloc, &mut text, plan, job)?;
-    text.extend_from_slice(words)?;
+    text.extend_from_slice(words.as_bytes())?;
     Ok(text)
 }
 
-/// The words on mode wait, with the reach of the job.
+/// The words on mode wait: how late a run may start and end, by the reach of the job.
 fn words_on_wait(
     alloc: Global,
     plan: &Plan,
     checked: &Checked,
     job: u16,
-) -> Result<Vec<u8>, AllocError>
-    ensures { IfOk result
-        (λ words. TellReach plan.now (reach_in checked.now) (OtherMode job Wait) words.items) }
-{
-    let mut words = named(alloc, plan, job, about(Mode::Wait))?;
-    let (max, reach) = (plan.job_at(job).max(), reach_in(checked, job));
-    push_wait_words(alloc, &mut words, b" late and end up to ", max, reach)?;
-    words.extend_from_slice(b" after its due minute: ")?;
-    Ok(words)
+) -> Result<Vec<u8>, AllocError> {
+    let reach = reach_in(checked, job);
+    let late = reach.saturating_sub(plan.job_at(job).max());
+    let (about, late_unit, unit) = (about(Mode::Wait), unit(late), unit(reach));
+    let words = format!(in alloc;
+        "{about}{late} {late_unit} late and end up to {reach} {unit} after its due minute: "
+    )?;
+    named(alloc, plan, job, words.as_str())
 }
 
 /// The words on another value of a member.
@@ -94,15 +66,12 @@ fn words_on(
     plan: &Plan,
     checked: &Checked,
     member: &Member,
-) -> Result<Vec<u8>, AllocError>
-    ensures { IfOk result
-        (λ words. TellReach plan.now (reach_in checked.now) member.now words.items) }
-{
+) -> Result<Vec<u8>, AllocError> {
     match member {
         Member::Max(job, max) => {
             let old = plan.job_at(*job).max();
             let words = format!(in alloc; ", max {max} in place of {old}: ")?;
-            named(alloc, plan, *job, words.as_bytes())
+            named(alloc, plan, *job, words.as_str())
         }
         Member::Mode(job, Mode::Wait) => words_on_wait(alloc, plan, checked, *job),
         Member::Mode(job, mode) => named(alloc, plan, *job, about(*mode)),
@@ -122,72 +91,40 @@ fn words_on(
     }
 }
 
-/// The line of another value of a member, with what is pasted.
-fn member_line(
-    alloc: Global,
-    plan: &Plan,
-    checked: &Checked,
-    member: &Member,
-    pasted: &[u8],
-) -> Result<Vec<u8>, AllocError>
-    ensures { IfOk result (λ line. (words : List ℕ)
-        × TellReach plan.now (reach_in checked.now) member.now words
-        × (line.items ≡ words ++ (pasted.now ++ codes "\n"))) }
-{
-    let mut line = words_on(alloc, plan, checked, member)?;
-    line.extend_from_slice(pasted)?;
-    line.push(b'\n')?;
-    Ok(line)
-}
-
-/// A byte as a terminal may show it.
-fn seen(byte: u8) -> u8
-    ensures { result ≡ seen byte }
-{
-    if (byte < 32 && byte != 9) || byte == 127 {
-        b'?'
-    } else {
-        byte
-    }
-}
-
 /// Adds a line of a table as a terminal may show it.
 fn push_seen(text: &mut Vec<u8>, line: &[u8]) -> Result<(), AllocError>
     ensures { OnOk result (text.new.items ≡ text.old.items ++ map seen line.now) }
 {
     for byte in line {
-        text.push(seen(*byte))?;
+        text.push(if (*byte < 32 && *byte != 9) || *byte == 127 {
+            b'?'
+        } else {
+            *byte
+        })?;
     }
     Ok(())
 }
 
-/// The words on another start: how much later or earlier it is.
-fn shift_words(alloc: Global, shift: Shift) -> Result<Vec<u8>, AllocError> {
-    let (minutes, way) = match shift {
-        Shift::Later(minutes) => (minutes, b" later: ".as_slice()),
-        Shift::Earlier(minutes) => (minutes, b" earlier: ".as_slice()),
-    };
-    let mut words = Vec::from_slice(alloc, b", ".as_slice())?;
-    push_minutes(alloc, &mut words, minutes)?;
-    words.extend_from_slice(way)?;
-    Ok(words)
-}
-
-/// The line of another start, behind other words.
+/// The line of another start, behind other words: how much later or earlier it is.
 fn start_line(
     alloc: Global,
     front: &[u8],
     plan: &Plan,
     start: &Start,
 ) -> Result<Vec<u8>, AllocError>
-    ensures { IfOk result (λ line. IsStartLine plan.now start.now line.items) }
+    ensures { IfOk result (λ line. EndsIn line.items (map seen start.now.line)) }
 {
-    let words = shift_words(alloc, start.shift)?;
+    let (minutes, way) = match start.shift {
+        Shift::Later(minutes) => (minutes, "later"),
+        Shift::Earlier(minutes) => (minutes, "earlier"),
+    };
+    let unit = unit(minutes);
+    let words = format!(in alloc; ", {minutes} {unit} {way}: ")?;
     let mut line = Vec::from_slice(alloc, front)?;
     push_label(alloc, &mut line, plan, start.job)?;
-    line.extend_from_slice(words.as_slice())?;
+    line.extend_from_slice(words.as_bytes())?;
     push_seen(&mut line, start.line.as_slice())?;
-    line.extend_from_slice(b"\n")?;
+    line.push(b'\n')?;
     Ok(line)
 }
 
@@ -200,8 +137,7 @@ pub(crate) fn change_line(
     change: &Change,
     pasted: &[u8],
 ) -> Result<Vec<u8>, AllocError>
-    ensures { IfOk result
-        (λ line. IsLine plan.now (reach_in checked.now) change.now pasted.now line.items) }
+    ensures { IfOk result (λ line. IsLine change.now pasted.now line.items) }
 {
     match change {
         Change::Start(start) => start_line(alloc, b"", plan, start),
@@ -210,6 +146,11 @@ pub(crate) fn change_line(
             lines.extend_from_slice(start_line(alloc, b"", plan, other)?.as_slice())?;
             Ok(lines)
         }
-        Change::Member(member) => member_line(alloc, plan, checked, member, pasted),
+        Change::Member(member) => {
+            let mut line = words_on(alloc, plan, checked, member)?;
+            line.extend_from_slice(pasted)?;
+            line.push(b'\n')?;
+            Ok(line)
+        }
     }
 }

@@ -1,4 +1,4 @@
-ghost use Rattle.std.specs.Prelude.{◌≡◌, ◌<◌, ◌≤◌, ◌==◌, length, drop, IfSome, IfOk, IfErr};
+ghost use Rattle.std.specs.Prelude.{◌≡◌, ◌<◌, ◌≤◌, ◌==◌, length, IfSome, IfOk, IfErr};
 ghost use Rattle.std.specs.List.{list_any};
 ghost use Rattle.std.specs.Str.{is_utf8};
 ghost use Rattle.cs_anacrontab.specs.Reading.{number_of, or_fault, days_of, period_of, is_folder, is_identifier, behind_word, word_at, completed, job_of, is_continued, entry_of, line_of};
@@ -18,7 +18,7 @@ use cs_table::text::{digits, has_nul, skip_blanks, word};
 use cs_table::{MAX_LINE, Wrong, marked};
 
 /// The content of a line.
-#[derive(Debug, Drop)]
+#[derive(Drop)]
 pub enum Entry<'a> {
     /// Nothing: it is empty, blank or a comment.
     Nothing,

@@ -8,7 +8,7 @@ use cs_civil::{Day, Gregorian};
 use std::marker::Model;
 
 /// A number of days, from 1 to [`MAX_PERIOD`](crate::MAX_PERIOD).
-#[derive(Clone, Copy, Debug, PartialEq, Eq)]
+#[derive(Clone, Copy, PartialEq, Eq)]
 pub struct DayCount {
     days: u32,
 }
@@ -48,7 +48,7 @@ impl DayCount {
 }
 
 /// How often a job runs (anacrontab(5)).
-#[derive(Clone, Copy, Debug, PartialEq, Eq)]
+#[derive(Clone, Copy, PartialEq, Eq)]
 pub enum Period {
     /// After that many days: `@daily` is one day, `@weekly` seven (this profile).
     Days(DayCount),

@@ -9,7 +9,7 @@ use std::alloc::{AllocError, Global};
 use std::marker::Model;
 
 /// A job line of an anacrontab.
-#[derive(Debug, Drop)]
+#[derive(Drop)]
 pub struct Job {
     place: u32,
     rhythm: Period,
@@ -118,7 +118,7 @@ fn copy_jobs(alloc: Global, jobs: &[Job]) -> Result<Sequence<Job>, AllocError>
 
 /// An anacrontab: its settings, and at most [`MAX_JOBS`](crate::MAX_JOBS) jobs with different
 /// identifiers, each in order of line.
-#[derive(Debug, Drop)]
+#[derive(Drop)]
 pub struct Anacrontab {
     variables: Sequence<Setting>,
     jobs: Sequence<Job>,

@@ -7,15 +7,15 @@ use Rattle.std.specs.Str.Parse.{ParsesUnsigned, digits_value}
 use Rattle.std.proofs.lemmas.Str.Parse.{parse_digits, numerals_by_value, tells_all_ascii_digits}
 use Rattle.std.proofs.lemmas.Bool.{lt-ltb, ltb-true}
 use Rattle.std.specs.Result.{OkIff}
-use Rattle.std.specs.Prelude.{Box}
+use Rattle.std.specs.Prelude.{Box, is_some}
 use Rattle.std.specs.Box.{box_value}
 use Rattle.clap.specs.Simple.{subcommand_rows}
 use Rattle.clap.specs.declared.parser.matches.ArgMatches.TheViews.{out-SubCommand}
 use Rattle.clap.specs.declared.parser.matches.SubCommand.{SubCommand}
 use Rattle.clap.specs.Words.{HasKind, IsAmong, Row, Text, fault_of, is_simple, is_simple_and_free, kind_of, App, Shape, with_subcommand}
 use Rattle.clap.specs.declared.error.Error.{Error}
-use Rattle.cs_args.specs.CommandLine.{Asking, all_subcommands, app_of_subcommand, asked_by, asked_of, cronsafe_app, number_of, top_app, with_all}
-use Rattle.cs_args.specs.Asked.{Answers, FaultOf, Parses}
+use Rattle.cs_args.specs.Asked.{Asking}
+use Rattle.cs_args.specs.CommandLine.{Answers, FaultOf, Parses, all_subcommands, app_of_subcommand, asked_by, asked_of, asked_in, cronsafe_app, is_wrong, number_of, subcommand_named, top_app, with_all}
 use Rattle.cs_args.specs.declared.table.Subcommand.{Subcommand}
 use Rattle.cs_args.specs.declared.request.Request.{Request}
 use Rattle.cs_args.specs.declared.request.UsageFault.{UsageFault}
@@ -49,6 +49,20 @@ number_refused bs r x h e d =
     let kk = subst (λ y. OkIff y ((0 < length bs) × (digits_value 10 bs < 2 ^ 64)) (digits_value 10 bs)) e k in
     let t = fails (nat_lt 0 (length bs)) (nat_lt (digits_value 10 bs) (2 ^ 64)) (λ q. kk (ltb-true 0 (length bs) q.0, ltb-true (digits_value 10 bs) (2 ^ 64) q.1)) in
     rw (d, t) refl
+
+-- where a message is found nothing is asked, and else what the words say
+pub refused : {A : Type 0} (name : Text) (rows : List Row) (s : Subcommand) (message : Option A) (text : A) → subcommand_named name ≡ Some s → is_some message ≡ is_wrong s rows → message ≡ Some text
+    → asked_by name rows ≡ None
+refused name rows s message text is same some =
+    let wrong : is_wrong s rows ≡ true = sym same ∙ ap is_some some in
+    rw (is, wrong) refl
+
+pub answered : {A : Type 0} (name : Text) (rows : List Row) (s : Subcommand) (message : Option A) (r : Result Request UsageFault) → subcommand_named name ≡ Some s → is_some message ≡ is_wrong s rows
+    → message ≡ None → Answers (Some (asked_in s rows)) r → Answers (asked_by name rows) r
+answered name rows s message r is same none h =
+    let right : is_wrong s rows ≡ false = sym same ∙ ap is_some none in
+    let asks : asked_by name rows ≡ Some (asked_in s rows) = rw (is, right) refl in
+    subst (λ wanted. Answers wanted r) (sym asks) h
 
 -- what words ask is what the entries of their subcommand ask
 pub asked_named : (o : Option (Text × List Row)) (name : Text) (rows : List Row) → option_map (λ p. p.0) o ≡ Some name → option_map (λ p. p.1) o ≡ Some rows

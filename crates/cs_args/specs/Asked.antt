@@ -1,12 +1,6 @@
--- What `parse_words` answers, as what the words ask.
-use Rattle.std.specs.Prelude.{◌≡◌, ◌≢◌, Bool, List, Option, map, option_map, Some, None, Result, Ok, Err, false, true, ⊤}
-use Rattle.clap.specs.Words.{Text, kind_of}
-use Rattle.clap.specs.declared.error.Error.{Error}
-use Rattle.clap.specs.declared.error.kind.ErrorKind.TheVariants.{DisplayHelp, DisplayVersion}
-use Rattle.clap.specs.declared.error.kind.ErrorKind.TheVariants as kind
-use Rattle.cs_args.specs.CommandLine.{Asked, AskedAdvise, AskedChart, AskedCheck, AskedDraft, AskedGather, AskedJudge, AskedLearn, AskedLint, AskedMake, AskedReplay, AskedRun, AskedStatus, AskedStop}
-use Rattle.cs_args.specs.CommandLine.{Advise, Asking, Chart, Check, Day, Draft, Explain, Gather, Help as HelpAsking, Judge, Learn, Lint, Make, Reload, Replay, Room, Run, Status, Stop}
-use Rattle.cs_args.specs.CommandLine.{Asks, AsksHelp, AsksVersion, IsNoCall}
+-- What a call may ask, in texts and numbers: the doc comments of `src/request.rt` say what each
+-- field is.
+use Rattle.std.specs.Prelude.{ℕ, Bool, List, Option, map, option_map}
 use Rattle.cs_args.specs.declared.request.AdviseWords.{AdviseWords}
 use Rattle.cs_args.specs.declared.request.ChartWords.{ChartWords}
 use Rattle.cs_args.specs.declared.request.CheckWords.{CheckWords}
@@ -23,8 +17,117 @@ use Rattle.cs_args.specs.declared.request.Request.{Request}
 use Rattle.cs_args.specs.declared.request.RunWords.{RunWords}
 use Rattle.cs_args.specs.declared.request.StatusWords.{StatusWords}
 use Rattle.cs_args.specs.declared.request.StopWords.{StopWords}
-use Rattle.cs_args.specs.declared.request.UsageFault.TheVariants.{Help, NoCall, OutOfMemory, Version}
-use Rattle.cs_args.specs.declared.request.UsageFault.{UsageFault}
+
+abbrev pub Text : Type 0
+Text = List ℕ
+
+pub record Asked : Type 0 where
+  pub table : Text
+  pub date : Text
+  pub max : ℕ
+  pub anacrontab : Option Text
+  pub from : ℕ
+  pub to : ℕ
+
+pub record AskedReplay : Type 0 where
+  pub table : Text
+  pub script : Text
+  pub max : ℕ
+  pub anacrontab : Option Text
+  pub declarations : Option Text
+  pub judge : Bool
+  pub log : Bool
+  pub show_script : Bool
+
+pub record AskedCheck : Type 0 where
+  pub table : Text
+  pub declarations : Text
+  pub certificate : Text
+  pub anacrontab : Option Text
+
+pub record AskedRun : Type 0 where
+  pub check : AskedCheck
+  pub stamps : Text
+  pub minutes : Option ℕ
+  pub log : Option Text
+  pub output : Option Text
+  pub keep : Option ℕ
+  pub home : Bool
+  pub on_overrun : Option Text
+  pub on_failure : Option Text
+
+pub record AskedStop : Type 0 where
+  pub stamps : Text
+  pub now : Bool
+
+pub record AskedStatus : Type 0 where
+  pub stamps : Text
+  pub json : Bool
+
+pub record AskedJudge : Type 0 where
+  pub table : Text
+  pub declarations : Text
+  pub anacrontab : Option Text
+
+pub record AskedMake : Type 0 where
+  pub judge : AskedJudge
+  pub compact : Bool
+
+pub record AskedAdvise : Type 0 where
+  pub judge : AskedJudge
+  pub within : ℕ
+
+pub record AskedGather : Type 0 where
+  pub root : Option Text
+  pub system : List Text
+  pub user : List Text
+
+pub record AskedDraft : Type 0 where
+  pub table : Text
+  pub max : ℕ
+  pub anacrontab : Option Text
+  pub update : Option Text
+
+pub record AskedLearn : Type 0 where
+  pub table : Text
+  pub logs : List Text
+  pub factor : Text
+  pub update : Option Text
+
+pub record AskedLint : Type 0 where
+  pub table : Text
+  pub declarations : Option Text
+  pub anacrontab : Option Text
+  pub zone : Option Text
+  pub only : List Text
+  pub except : List Text
+  pub faults_only : Bool
+
+pub record AskedChart : Type 0 where
+  pub day : Asked
+  pub days : ℕ
+  pub declarations : Option Text
+
+-- what words may ask: a subcommand, or, by the subcommand `help`, how the program is called
+pub data Asking : Type 0 where
+  Day : Asked → Asking
+  Replay : AskedReplay → Asking
+  Check : AskedCheck → Asking
+  Run : AskedRun → Asking
+  Stop : AskedStop → Asking
+  Reload : Text → Asking
+  Status : AskedStatus → Asking
+  Judge : AskedJudge → Asking
+  Make : AskedMake → Asking
+  Advise : AskedAdvise → Asking
+  Room : AskedJudge → Asking
+  Gather : AskedGather → Asking
+  Draft : AskedDraft → Asking
+  Learn : AskedLearn → Asking
+  Lint : AskedLint → Asking
+  Chart : AskedChart → Asking
+  Explain : Option Text → Asking
+  Help : Asking
 
 abbrev pub asked : DayWords → Asked
 asked d = record {
@@ -147,45 +250,3 @@ asking (request.Learn l) = Learn (asked_learn l)
 asking (request.Lint l) = Lint (asked_lint l)
 asking (request.Chart c) = Chart (asked_chart c)
 asking (request.Explain name) = Explain (option_map (λ name. name.now) name)
-
--- the words ask what is answered; help and the version are answered where they are asked for, and a
--- fault of the words where there is one
-abbrev pub Parses : List Text → Result Request UsageFault → Type 0
-Parses words (Ok r) = Asks words (asking r)
-Parses words (Err (Help text)) = AsksHelp words
-Parses words (Err Version) = AsksVersion words
-Parses words (Err (NoCall text)) = IsNoCall words
-Parses words (Err OutOfMemory) = ⊤
-
--- what is asked is answered: by what is asked, by help where that is asked, and by a fault of the
--- words where nothing is
-abbrev pub Answers : Option Asking → Result Request UsageFault → Type 0
-Answers wanted (Ok r) = wanted ≡ Some (asking r)
-Answers wanted (Err (Help text)) = wanted ≡ Some HelpAsking
-Answers wanted (Err Version) = ⊥
-Answers wanted (Err (NoCall text)) = wanted ≡ None
-Answers wanted (Err OutOfMemory) = ⊤
-
--- so of a part of it, such as a number
-abbrev pub AnswersFor : {W A : Type 0} → (W → A) → Option A → Result W UsageFault → Type 0
-AnswersFor view wanted (Ok words) = wanted ≡ Some (view words)
-AnswersFor view wanted (Err (Help text)) = ⊥
-AnswersFor view wanted (Err Version) = ⊥
-AnswersFor view wanted (Err (NoCall text)) = wanted ≡ None
-AnswersFor view wanted (Err OutOfMemory) = ⊤
-
--- a fault is answered where there is one
-abbrev pub RefusesIf : {T : Type 0} → Bool → Result T UsageFault → Type 0
-RefusesIf is_fault (Ok words) = is_fault ≡ false
-RefusesIf is_fault (Err (Help text)) = ⊥
-RefusesIf is_fault (Err Version) = ⊥
-RefusesIf is_fault (Err (NoCall text)) = is_fault ≡ true
-RefusesIf is_fault (Err OutOfMemory) = ⊤
-
--- what a fault of `clap` is here
-abbrev pub FaultOf : Error → UsageFault → Type 0
-FaultOf e (Help text) = kind_of e ≡ DisplayHelp
-FaultOf e Version = kind_of e ≡ DisplayVersion
-FaultOf e (NoCall text) =
-    (kind_of e ≢ DisplayHelp) × (kind_of e ≢ DisplayVersion) × (kind_of e ≢ kind.OutOfMemory)
-FaultOf e OutOfMemory = ⊤

@@ -1,109 +1,107 @@
 -- The command line, as `clap` reads it, and what its words ask.
-use Rattle.std.specs.Prelude.{◌≡◌, ◌≢◌, ◌⊎◌, ◌^◌, ◌==◌, ℕ, Bool, false, List, [], ◌∷◌, count_by, find, fold, is_some, not, Option, Some, None, sum_by, true, codes, option_and_then, option_map, unwrap_or, length, if◌then◌else◌, nat_lt, ◌&&◌, ◌||◌}
+use Prim.Native.String.{String}
+use Rattle.std.specs.Prelude.{◌≡◌, ◌≢◌, ◌⊎◌, ◌^◌, ◌==◌, ℕ, Bool, false, List, [], ◌∷◌, count_by, find, fold, is_none, is_some, not, Option, Some, None, sum_by, true, codes, option_and_then, option_map, unwrap_or, length, min, if◌then◌else◌, nat_lt, ◌&&◌, ◌||◌, Result, Ok, Err, ⊤}
 use Rattle.std.specs.Str.Parse.{digits_value}
 use Rattle.std.specs.Char.{is_ascii_digit}
-use Rattle.std.specs.List.{list_all}
+use Rattle.std.specs.List.{list_all, list_any}
 use Rattle.std.specs.Option.{option_map_or}
 use Rattle.std.specs.Str.{bytes_eq}
-use Rattle.clap.specs.Words.{App, IsAmong, Row, Rule, Text, all_of, fault_of, first_of, new_app, new_rule, subcommand_of, with_rule, with_subcommand}
+use Rattle.clap.specs.Words.{App, IsAmong, Row, Rule, all_of, fault_of, first_of, kind_of, new_app, new_rule, subcommand_of, with_rule, with_subcommand}
 use Rattle.clap.specs.Simple.{on_top}
 use Rattle.clap.specs.declared.builder.action.ArgAction.TheVariants.{Append, SetTrue}
+use Rattle.clap.specs.declared.error.Error.{Error}
 use Rattle.clap.specs.declared.error.kind.ErrorKind.{ErrorKind}
 use Rattle.clap.specs.declared.error.kind.ErrorKind.TheVariants.{DisplayHelp, DisplayVersion}
+use Rattle.clap.specs.declared.error.kind.ErrorKind.TheVariants as kind
+use Rattle.cs_args.specs.Asked.{Asked, AskedAdvise, AskedChart, AskedCheck, AskedDraft, AskedGather, AskedJudge, AskedLearn, AskedLint, AskedMake, AskedReplay, AskedRun, AskedStatus, AskedStop, Text, asking}
+use Rattle.cs_args.specs.Asked.{Advise, Asking, Chart, Check, Day, Draft, Explain, Gather, Help as HelpAsking, Judge, Learn, Lint, Make, Reload, Replay, Room, Run, Status, Stop}
+use Rattle.cs_args.specs.declared.request.Request.{Request}
+use Rattle.cs_args.specs.declared.request.UsageFault.TheVariants.{Help, NoCall, OutOfMemory, Version}
+use Rattle.cs_args.specs.declared.request.UsageFault.{UsageFault}
 use Rattle.cs_args.specs.declared.table.Subcommand.{Subcommand}
 use Rattle.cs_args.specs.declared.table.Subcommand.TheVariants as subcommand
 
--- an argument that stands without a name, and may be left out, has to stand, or has to once or more
--- often
-abbrev pub optional_word : Text → Rule
-optional_word = new_rule
+-- a word that may be left out, one that is required, and one or more
+abbrev pub optional_word : String → Rule
+optional_word id = new_rule (codes id)
 
-abbrev pub word : Text → Rule
-word id = record (new_rule id) { required = true }
+abbrev pub word : String → Rule
+word id = record (new_rule (codes id)) { required = true }
 
-abbrev pub words : Text → Rule
+abbrev pub words : String → Rule
 words id = record (word id) { action = Some Append }
 
--- an option with one value, `--NAME VALUE`, which can be given once, or more than once
-abbrev pub value : Text → Rule
-value id = record (new_rule id) { long = Some id; value_names = 1 }
+-- `--NAME VALUE`, which can be given once, or more than once, and `--NAME`
+abbrev pub value : String → Rule
+value id = record (new_rule (codes id)) { long = Some (codes id); value_names = 1 }
 
-abbrev pub values : Text → Rule
+abbrev pub values : String → Rule
 values id = record (value id) { action = Some Append }
 
--- an option with no value, `--NAME`
-abbrev pub flag : Text → Rule
-flag id = record (new_rule id) { long = Some id; action = Some SetTrue }
+abbrev pub flag : String → Rule
+flag id = record (new_rule (codes id)) { long = Some (codes id); action = Some SetTrue }
 
--- the names of the subcommands
+-- the name of a subcommand and its arguments
+abbrev pub usage_of : Subcommand → Text × List Rule
+usage_of subcommand.Judge = (codes "judge", word "TABLE" ∷ word "DECLS" ∷ value "anacrontab" ∷ [])
+usage_of subcommand.Check = (
+  codes "check",
+  word "TABLE" ∷ word "DECLS" ∷ word "CERT" ∷ value "anacrontab" ∷ [],
+)
+usage_of subcommand.Make = (
+  codes "make",
+  word "TABLE" ∷ word "DECLS" ∷ value "anacrontab" ∷ flag "compact" ∷ [],
+)
+usage_of subcommand.Advise = (
+  codes "advise",
+  word "TABLE" ∷ word "DECLS" ∷ value "anacrontab" ∷ value "within" ∷ [],
+)
+usage_of subcommand.Room = (codes "room", word "TABLE" ∷ word "DECLS" ∷ value "anacrontab" ∷ [])
+usage_of subcommand.Run = (
+  codes "run",
+  word "TABLE" ∷ word "DECLS" ∷ word "CERT" ∷ word "STAMPS" ∷ value "anacrontab" ∷
+      value "minutes" ∷ value "log" ∷ value "output" ∷ value "keep" ∷ flag "home" ∷
+      value "on-overrun" ∷ value "on-failure" ∷ [],
+)
+usage_of subcommand.Stop = (codes "stop", word "STAMPS" ∷ flag "now" ∷ [])
+usage_of subcommand.Reload = (codes "reload", word "STAMPS" ∷ [])
+usage_of subcommand.Status = (codes "status", word "STAMPS" ∷ flag "json" ∷ [])
+usage_of subcommand.Gather = (codes "gather", value "root" ∷ values "system" ∷ values "user" ∷ [])
+usage_of subcommand.Draft = (
+  codes "draft",
+  word "TABLE" ∷ value "anacrontab" ∷ value "max" ∷ value "update" ∷ [],
+)
+usage_of subcommand.Learn = (
+  codes "learn",
+  word "TABLE" ∷ words "LOG" ∷ value "factor" ∷ value "update" ∷ [],
+)
+usage_of subcommand.Lint = (
+  codes "lint",
+  word "TABLE" ∷ optional_word "DECLS" ∷ value "anacrontab" ∷ value "zone" ∷ values "only" ∷
+      values "except" ∷ flag "faults-only" ∷ [],
+)
+usage_of subcommand.Day = (
+  codes "day",
+  word "TABLE" ∷ word "DATE" ∷ word "MAX" ∷ value "anacrontab" ∷ value "from" ∷ value "to" ∷ [],
+)
+usage_of subcommand.Chart = (
+  codes "chart",
+  word "TABLE" ∷ word "DATE" ∷ optional_word "MAX" ∷ value "anacrontab" ∷ value "from" ∷
+      value "to" ∷ value "days" ∷ value "declarations" ∷ [],
+)
+usage_of subcommand.Replay = (
+  codes "replay",
+  word "TABLE" ∷ word "SCRIPT" ∷ value "max" ∷ value "anacrontab" ∷ value "declarations" ∷
+      flag "judge" ∷ flag "log" ∷ flag "script" ∷ [],
+)
+usage_of subcommand.Explain = (codes "explain", optional_word "NAME" ∷ [])
+usage_of subcommand.Help = (codes "help", optional_word "COMMAND" ∷ [])
+
 abbrev pub name_of : Subcommand → Text
-name_of subcommand.Judge = codes "judge"
-name_of subcommand.Check = codes "check"
-name_of subcommand.Make = codes "make"
-name_of subcommand.Advise = codes "advise"
-name_of subcommand.Room = codes "room"
-name_of subcommand.Run = codes "run"
-name_of subcommand.Stop = codes "stop"
-name_of subcommand.Reload = codes "reload"
-name_of subcommand.Status = codes "status"
-name_of subcommand.Gather = codes "gather"
-name_of subcommand.Draft = codes "draft"
-name_of subcommand.Learn = codes "learn"
-name_of subcommand.Lint = codes "lint"
-name_of subcommand.Day = codes "day"
-name_of subcommand.Chart = codes "chart"
-name_of subcommand.Replay = codes "replay"
-name_of subcommand.Explain = codes "explain"
-name_of subcommand.Help = codes "help"
+name_of s = (usage_of s).0
 
--- their arguments
 abbrev pub rules_of : Subcommand → List Rule
-rules_of subcommand.Judge =
-    word (codes "TABLE") ∷ word (codes "DECLS") ∷ value (codes "anacrontab") ∷ []
-rules_of subcommand.Check =
-    word (codes "TABLE") ∷ word (codes "DECLS") ∷ word (codes "CERT") ∷ value (codes "anacrontab") ∷
-    []
-rules_of subcommand.Make =
-    word (codes "TABLE") ∷ word (codes "DECLS") ∷ value (codes "anacrontab") ∷
-    flag (codes "compact") ∷ []
-rules_of subcommand.Advise =
-    word (codes "TABLE") ∷ word (codes "DECLS") ∷ value (codes "anacrontab") ∷
-    value (codes "within") ∷ []
-rules_of subcommand.Room =
-    word (codes "TABLE") ∷ word (codes "DECLS") ∷ value (codes "anacrontab") ∷ []
-rules_of subcommand.Run =
-    word (codes "TABLE") ∷ word (codes "DECLS") ∷ word (codes "CERT") ∷ word (codes "STAMPS") ∷
-    value (codes "anacrontab") ∷ value (codes "minutes") ∷ value (codes "log") ∷
-    value (codes "output") ∷ value (codes "keep") ∷ flag (codes "home") ∷
-    value (codes "on-overrun") ∷ value (codes "on-failure") ∷ []
-rules_of subcommand.Stop = word (codes "STAMPS") ∷ flag (codes "now") ∷ []
-rules_of subcommand.Reload = word (codes "STAMPS") ∷ []
-rules_of subcommand.Status = word (codes "STAMPS") ∷ flag (codes "json") ∷ []
-rules_of subcommand.Gather =
-    value (codes "root") ∷ values (codes "system") ∷ values (codes "user") ∷ []
-rules_of subcommand.Draft =
-    word (codes "TABLE") ∷ value (codes "anacrontab") ∷ value (codes "max") ∷
-    value (codes "update") ∷ []
-rules_of subcommand.Learn =
-    word (codes "TABLE") ∷ words (codes "LOG") ∷ value (codes "factor") ∷ value (codes "update") ∷
-    []
-rules_of subcommand.Lint =
-    word (codes "TABLE") ∷ optional_word (codes "DECLS") ∷ value (codes "anacrontab") ∷
-    value (codes "zone") ∷ values (codes "only") ∷ values (codes "except") ∷
-    flag (codes "faults-only") ∷ []
-rules_of subcommand.Day =
-    word (codes "TABLE") ∷ word (codes "DATE") ∷ word (codes "MAX") ∷ value (codes "anacrontab") ∷
-    value (codes "from") ∷ value (codes "to") ∷ []
-rules_of subcommand.Chart =
-    word (codes "TABLE") ∷ word (codes "DATE") ∷ optional_word (codes "MAX") ∷
-    value (codes "anacrontab") ∷ value (codes "from") ∷ value (codes "to") ∷ value (codes "days") ∷
-    value (codes "declarations") ∷ []
-rules_of subcommand.Replay =
-    word (codes "TABLE") ∷ word (codes "SCRIPT") ∷ value (codes "max") ∷
-    value (codes "anacrontab") ∷ value (codes "declarations") ∷ flag (codes "judge") ∷
-    flag (codes "log") ∷ flag (codes "script") ∷ []
-rules_of subcommand.Explain = optional_word (codes "NAME") ∷ []
-rules_of subcommand.Help = optional_word (codes "COMMAND") ∷ []
+rules_of s = (usage_of s).1
 
 -- all of them, in the order of the help
 unfoldable pub all_subcommands : List Subcommand
@@ -112,6 +110,19 @@ all_subcommands =
     subcommand.Run ∷ subcommand.Stop ∷ subcommand.Reload ∷ subcommand.Status ∷ subcommand.Gather ∷
     subcommand.Draft ∷ subcommand.Learn ∷ subcommand.Lint ∷ subcommand.Day ∷ subcommand.Chart ∷
     subcommand.Replay ∷ subcommand.Explain ∷ subcommand.Help ∷ []
+
+-- the arguments whose value is a number below 2 ^ 64, in decimal digits
+abbrev pub numbers : List Text
+numbers =
+    codes "MAX" ∷ codes "from" ∷ codes "to" ∷ codes "days" ∷ codes "max" ∷ codes "minutes" ∷
+    codes "keep" ∷ codes "within" ∷ []
+
+-- the arguments at which - is standard input, in one of them at most
+abbrev pub inputs : List Text
+inputs =
+    codes "TABLE" ∷ codes "DECLS" ∷ codes "CERT" ∷ codes "SCRIPT" ∷ codes "LOG" ∷
+    codes "anacrontab" ∷ codes "declarations" ∷ codes "update" ∷ codes "zone" ∷ codes "system" ∷
+    codes "user" ∷ []
 
 -- `cronsafe`: it has a version, and wants a subcommand, of which `help` is its own
 unfoldable pub top_app : App
@@ -145,372 +156,173 @@ number_of text =
     then Some (digits_value 10 text) else None)
     else None
 
--- what `day` is asked: a table's path, the text of a date, a longest time in minutes, the path of
--- an anacrontab, and the catch-up hours, by their first minute of the day and the first behind them
-pub record Asked : Type 0 where
-  pub table : Text
-  pub date : Text
-  pub max : ℕ
-  pub anacrontab : Option Text
-  pub from : ℕ
-  pub to : ℕ
-
--- what `replay` is asked: the paths of a table and a script, a longest time in minutes, the paths
--- of an anacrontab and of declarations, whether to say what the script breaks, whether the script
--- is the one that a log tells, and whether to show it in place of its replay
-pub record AskedReplay : Type 0 where
-  pub table : Text
-  pub script : Text
-  pub max : ℕ
-  pub anacrontab : Option Text
-  pub declarations : Option Text
-  pub judge : Bool
-  pub log : Bool
-  pub show_script : Bool
-
--- what `check` is asked: the paths of a table, of declarations, of a certificate and of an
--- anacrontab
-pub record AskedCheck : Type 0 where
-  pub table : Text
-  pub declarations : Text
-  pub certificate : Text
-  pub anacrontab : Option Text
-
--- what `run` is asked: what `check` is, the path of a folder of stamps, after how many minutes the
--- clock stops, if it does, the paths of a log and of a folder for the output of the runs, if there
--- are such, how many files of each job are kept there, if that is told, whether commands run in
--- their user's home folder, and the commands to start at a run past its longest time and at one
--- that fails
-pub record AskedRun : Type 0 where
-  pub check : AskedCheck
-  pub stamps : Text
-  pub minutes : Option ℕ
-  pub log : Option Text
-  pub output : Option Text
-  pub keep : Option ℕ
-  pub home : Bool
-  pub on_overrun : Option Text
-  pub on_failure : Option Text
-
--- what `stop` is asked: the path of a folder of stamps, and whether the end isn't waited for
-pub record AskedStop : Type 0 where
-  pub stamps : Text
-  pub now : Bool
-
--- what `status` is asked: the path of a folder of stamps, and whether the state is told as JSON
-pub record AskedStatus : Type 0 where
-  pub stamps : Text
-  pub json : Bool
-
--- what `judge` is asked: the paths of a table, of declarations and of an anacrontab
-pub record AskedJudge : Type 0 where
-  pub table : Text
-  pub declarations : Text
-  pub anacrontab : Option Text
-
--- what `make` is asked: what `judge` is, and whether the certificate is to be a compact one
-pub record AskedMake : Type 0 where
-  pub judge : AskedJudge
-  pub compact : Bool
-
--- what `advise` is asked: what `judge` is, and by how many minutes a job may be moved at most
-pub record AskedAdvise : Type 0 where
-  pub judge : AskedJudge
-  pub within : ℕ
-
--- what `gather` is asked: the paths of a root folder, of system tables and of users' tables
-pub record AskedGather : Type 0 where
-  pub root : Option Text
-  pub system : List Text
-  pub user : List Text
-
--- what `draft` is asked: the paths of a table, of an anacrontab and of declarations to update, and
--- a longest time in minutes
-pub record AskedDraft : Type 0 where
-  pub table : Text
-  pub max : ℕ
-  pub anacrontab : Option Text
-  pub update : Option Text
-
--- what `learn` is asked: the paths of a table, of logs and of declarations to update, and the text
--- of a factor
-pub record AskedLearn : Type 0 where
-  pub table : Text
-  pub logs : List Text
-  pub factor : Text
-  pub update : Option Text
-
--- what `lint` is asked: the paths of a table, of declarations, of an anacrontab and of a time zone,
--- the names of the findings to tell and of those to leave out, and whether to tell faults alone
-pub record AskedLint : Type 0 where
-  pub table : Text
-  pub declarations : Option Text
-  pub anacrontab : Option Text
-  pub zone : Option Text
-  pub only : List Text
-  pub except : List Text
-  pub faults_only : Bool
-
--- what `chart` is asked: what `day` is, for how many days, and the path of declarations
-pub record AskedChart : Type 0 where
-  pub day : Asked
-  pub days : ℕ
-  pub declarations : Option Text
-
--- what words may ask: a subcommand, of which `reload` is asked the path of a folder of stamps, or,
--- by the subcommand `help`, how the program is called
-pub data Asking : Type 0 where
-  Day : Asked → Asking
-  Replay : AskedReplay → Asking
-  Check : AskedCheck → Asking
-  Run : AskedRun → Asking
-  Stop : AskedStop → Asking
-  Reload : Text → Asking
-  Status : AskedStatus → Asking
-  Judge : AskedJudge → Asking
-  Make : AskedMake → Asking
-  Advise : AskedAdvise → Asking
-  Room : AskedJudge → Asking
-  Gather : AskedGather → Asking
-  Draft : AskedDraft → Asking
-  Learn : AskedLearn → Asking
-  Lint : AskedLint → Asking
-  Chart : AskedChart → Asking
-  Explain : Option Text → Asking
-  Help : Asking
-
--- the first value of an argument, and this text where it has none
-abbrev pub value_or : Text → Text → List Row → Text
-value_or absent id rows = unwrap_or (first_of id rows) absent
-
--- that of a word that has to stand
-abbrev pub word_in : Text → List Row → Text
-word_in = value_or []
-
--- all values of an argument, in order
-abbrev pub values_in : Text → List Row → List Text
-values_in id rows = unwrap_or (all_of id rows) []
-
--- an option with no value is given
-abbrev pub has_flag : Text → List Row → Bool
-has_flag id rows = option_map_or (λ text. bytes_eq text (codes "true")) (first_of id rows) false
-
--- an argument is given
+-- an argument is given, or an option with no value is
 abbrev pub is_given : Text → List Row → Bool
 is_given id rows = is_some (first_of id rows)
 
--- the number of an option, and that of this text where it isn't given
-abbrev pub number_in : Text → Text → List Row → Option ℕ
-number_in absent id rows = number_of (value_or absent id rows)
+abbrev pub has_flag : Text → List Row → Bool
+has_flag id rows = option_map_or (λ text. bytes_eq text (codes "true")) (first_of id rows) false
 
--- the number of an option that may be left out
-abbrev pub optional_number_of : Option Text → Option (Option ℕ)
-optional_number_of None = Some None
-optional_number_of (Some text) = option_map Some (number_of text)
+-- the first value of an argument, and this text where it has none; all values, in order
+abbrev pub value_or : Text → Text → List Row → Text
+value_or absent id rows = unwrap_or (first_of id rows) absent
 
--- the path names standard input
+abbrev pub values_in : Text → List Row → List Text
+values_in id rows = unwrap_or (all_of id rows) []
+
+-- its number, if it has one, and this number where it has none
+abbrev pub optional_number : Text → List Row → Option ℕ
+optional_number id rows = option_and_then number_of (first_of id rows)
+
+abbrev pub number_or : ℕ → Text → List Row → ℕ
+number_or absent id rows = unwrap_or (optional_number id rows) absent
+
+-- one of these arguments is given, and is no number
+abbrev pub has_no_number : List Text → List Row → Bool
+has_no_number ids rows =
+    list_any (λ id. is_given id rows && is_none (optional_number id rows)) ids
+
+-- the values of these arguments name standard input more than once
 abbrev pub is_dash : Text → Bool
 is_dash path = bytes_eq path (45 ∷ [])
 
--- the paths of these arguments name standard input more than once
 abbrev pub is_twice_standard : List Text → List Row → Bool
 is_twice_standard ids rows = nat_lt 1 (sum_by (λ id. count_by is_dash (values_in id rows)) ids)
 
--- nothing is asked where this holds
-abbrev pub unless : {A : Type 0} → Bool → Option A → Option A
-unless fault asked = if fault then None else asked
+-- `help` is given a name that no subcommand has
+abbrev pub has_unknown_name : List Row → Bool
+has_unknown_name rows =
+    option_map_or (λ name. is_none (subcommand_named name)) (first_of (codes "COMMAND") rows) false
 
--- what the words of `day` ask, where MAX is this text: it and the hours have to be numbers, and the
--- hours are by default the whole day
-abbrev pub day_up_to : Text → List Row → Option Asked
-day_up_to max rows =
-    option_and_then (λ max. option_and_then (λ from. option_and_then (λ to.
-    unless (is_twice_standard (codes "TABLE" ∷ codes "anacrontab" ∷ []) rows)
-    (Some (record {
-      table = word_in (codes "TABLE") rows;
-      date = word_in (codes "DATE") rows;
-      max = max;
-      anacrontab = first_of (codes "anacrontab") rows;
-      from = from;
-      to = to;
-    })))
-    (number_in (codes "1440") (codes "to") rows)) (number_in (codes "0") (codes "from") rows))
-    (number_of max)
+-- `chart` has neither MAX nor declarations, or `gather` no path
+abbrev pub lacks : Subcommand → List Row → Bool
+lacks subcommand.Chart rows =
+    not (is_given (codes "MAX") rows) && not (is_given (codes "declarations") rows)
+lacks subcommand.Gather rows =
+    not (is_given (codes "root") rows)
+    && (not (is_given (codes "system") rows) && not (is_given (codes "user") rows))
+lacks _ rows = false
 
--- `chart`: MAX may be left out beside declarations, which have the longest time of each job, and
--- `--days` is from 1 to 7, by default 1
-abbrev pub chart_in : List Row → Option Asking
-chart_in rows =
-    unless (not (is_given (codes "MAX") rows) && not (is_given (codes "declarations") rows))
-    (option_and_then (λ day. option_and_then (λ days.
-    unless
-    (is_twice_standard (codes "TABLE" ∷ codes "anacrontab" ∷ codes "declarations" ∷ []) rows)
-    (unless (days == 0 || nat_lt 7 days) (Some (Chart (record {
-      day = day;
-      days = days;
-      declarations = first_of (codes "declarations") rows;
-    })))))
-    (number_in (codes "1") (codes "days") rows))
-    (day_up_to (value_or (codes "1440") (codes "MAX") rows) rows))
+-- `--keep` without `--output`, standard input twice, `--script` without `--log`, or a number out of
+-- its range
+abbrev pub is_misfit : List Row → Bool
+is_misfit rows =
+    (is_given (codes "keep") rows && not (is_given (codes "output") rows))
+    || ((number_or 30 (codes "keep") rows == 0)
+    || (is_twice_standard inputs rows
+    || ((has_flag (codes "script") rows && not (has_flag (codes "log") rows))
+    || ((number_or 1 (codes "days") rows == 0 || nat_lt 7 (number_or 1 (codes "days") rows))
+    || (number_or 120 (codes "within") rows == 0
+    || nat_lt 1439 (number_or 120 (codes "within") rows))))))
 
--- `replay`: `--max` is by default a day's minutes, and `--script` stands beside `--log` alone
-abbrev pub replay_in : List Row → Option Asking
-replay_in rows =
-    option_and_then (λ max.
-    unless (is_twice_standard
-    (codes "TABLE" ∷ codes "SCRIPT" ∷ codes "anacrontab" ∷ codes "declarations" ∷ []) rows)
-    (unless (has_flag (codes "script") rows && not (has_flag (codes "log") rows))
-    (Some (Replay (record {
-      table = word_in (codes "TABLE") rows;
-      script = word_in (codes "SCRIPT") rows;
-      max = max;
-      anacrontab = first_of (codes "anacrontab") rows;
-      declarations = first_of (codes "declarations") rows;
-      judge = has_flag (codes "judge") rows;
-      log = has_flag (codes "log") rows;
-      show_script = has_flag (codes "script") rows;
-    })))))
-    (number_in (codes "1440") (codes "max") rows)
+-- the words of a subcommand are wrong, though they have its form
+abbrev pub is_wrong : Subcommand → List Row → Bool
+is_wrong s rows =
+    lacks s rows || (has_no_number numbers rows || (has_unknown_name rows || is_misfit rows))
 
--- `check`
-abbrev pub check_in : List Row → Option AskedCheck
-check_in rows =
-    unless (is_twice_standard
-    (codes "TABLE" ∷ codes "DECLS" ∷ codes "CERT" ∷ codes "anacrontab" ∷ []) rows)
-    (Some (record {
-      table = word_in (codes "TABLE") rows;
-      declarations = word_in (codes "DECLS") rows;
-      certificate = word_in (codes "CERT") rows;
-      anacrontab = first_of (codes "anacrontab") rows;
-    }))
+-- what they ask, where they aren't
+abbrev pub day_in : List Row → Asked
+day_in rows = record {
+  table = value_or [] (codes "TABLE") rows;
+  date = value_or [] (codes "DATE") rows;
+  max = number_or 1440 (codes "MAX") rows;
+  anacrontab = first_of (codes "anacrontab") rows;
+  from = number_or 0 (codes "from") rows;
+  to = number_or 1440 (codes "to") rows;
+}
 
--- `run`: what `check` asks; `--keep` is at least 1, and stands beside `--output` alone
-abbrev pub run_in : List Row → Option Asking
-run_in rows =
-    option_and_then (λ minutes. option_and_then (λ keep.
-    unless (is_some keep && not (is_given (codes "output") rows))
-    (unless (option_map_or (λ files. files == 0) keep false)
-    (option_map (λ check. Run (record {
-      check = check;
-      stamps = word_in (codes "STAMPS") rows;
-      minutes = minutes;
-      log = first_of (codes "log") rows;
-      output = first_of (codes "output") rows;
-      keep = keep;
-      home = has_flag (codes "home") rows;
-      on_overrun = first_of (codes "on-overrun") rows;
-      on_failure = first_of (codes "on-failure") rows;
-    })) (check_in rows))))
-    (optional_number_of (first_of (codes "keep") rows)))
-    (optional_number_of (first_of (codes "minutes") rows))
+abbrev pub check_in : List Row → AskedCheck
+check_in rows = record {
+  table = value_or [] (codes "TABLE") rows;
+  declarations = value_or [] (codes "DECLS") rows;
+  certificate = value_or [] (codes "CERT") rows;
+  anacrontab = first_of (codes "anacrontab") rows;
+}
 
--- `judge` and `room`
-abbrev pub judge_in : List Row → Option AskedJudge
-judge_in rows =
-    unless (is_twice_standard (codes "TABLE" ∷ codes "DECLS" ∷ codes "anacrontab" ∷ []) rows)
-    (Some (record {
-      table = word_in (codes "TABLE") rows;
-      declarations = word_in (codes "DECLS") rows;
-      anacrontab = first_of (codes "anacrontab") rows;
-    }))
+abbrev pub judge_in : List Row → AskedJudge
+judge_in rows = record {
+  table = value_or [] (codes "TABLE") rows;
+  declarations = value_or [] (codes "DECLS") rows;
+  anacrontab = first_of (codes "anacrontab") rows;
+}
 
--- `make`: what `judge` asks, and `--compact`
-abbrev pub make_in : List Row → Option Asking
-make_in rows = option_map (λ judge.
-    Make (record { judge = judge; compact = has_flag (codes "compact") rows })) (judge_in rows)
-
--- `advise`: what `judge` asks, and `--within`, from 1 to 1439, by default 120
-abbrev pub advise_in : List Row → Option Asking
-advise_in rows =
-    option_and_then (λ judge. option_and_then (λ within.
-    unless (within == 0 || nat_lt 1439 within)
-    (Some (Advise (record { judge = judge; within = within }))))
-    (number_in (codes "120") (codes "within") rows)) (judge_in rows)
-
--- `gather`: at least one path
-abbrev pub gather_in : List Row → Option Asking
-gather_in rows =
-    unless (not (is_given (codes "root") rows)
-    && (not (is_given (codes "system") rows) && not (is_given (codes "user") rows)))
-    (unless (is_twice_standard (codes "system" ∷ codes "user" ∷ []) rows) (Some (Gather (record {
-      root = first_of (codes "root") rows;
-      system = values_in (codes "system") rows;
-      user = values_in (codes "user") rows;
-    }))))
-
--- `draft`: `--max` is by default 60
-abbrev pub draft_in : List Row → Option Asking
-draft_in rows =
-    option_and_then (λ max.
-    unless (is_twice_standard (codes "TABLE" ∷ codes "anacrontab" ∷ codes "update" ∷ []) rows)
-    (Some (Draft (record {
-      table = word_in (codes "TABLE") rows;
-      max = max;
-      anacrontab = first_of (codes "anacrontab") rows;
-      update = first_of (codes "update") rows;
-    }))))
-    (number_in (codes "60") (codes "max") rows)
-
--- `learn`: the factor is by default 1.5
-abbrev pub learn_in : List Row → Option Asking
-learn_in rows =
-    unless (is_twice_standard (codes "TABLE" ∷ codes "LOG" ∷ codes "update" ∷ []) rows)
-    (Some (Learn (record {
-      table = word_in (codes "TABLE") rows;
-      logs = values_in (codes "LOG") rows;
-      factor = value_or (codes "1.5") (codes "factor") rows;
-      update = first_of (codes "update") rows;
-    })))
-
--- `lint`
-abbrev pub lint_in : List Row → Option Asking
-lint_in rows =
-    unless (is_twice_standard
-    (codes "TABLE" ∷ codes "DECLS" ∷ codes "anacrontab" ∷ codes "zone" ∷ []) rows)
-    (Some (Lint (record {
-      table = word_in (codes "TABLE") rows;
-      declarations = first_of (codes "DECLS") rows;
-      anacrontab = first_of (codes "anacrontab") rows;
-      zone = first_of (codes "zone") rows;
-      only = values_in (codes "only") rows;
-      except = values_in (codes "except") rows;
-      faults_only = has_flag (codes "faults-only") rows;
-    })))
-
--- `help`: of the program, or of a subcommand
-abbrev pub help_in : List Row → Option Asking
-help_in rows = unless (option_map_or (λ name. not (is_some (subcommand_named name)))
-    (first_of (codes "COMMAND") rows) false) (Some Help)
-
--- what the words of each subcommand ask
-abbrev pub asked_in : Subcommand → List Row → Option Asking
-asked_in subcommand.Day rows = option_map Day (day_up_to (word_in (codes "MAX") rows) rows)
-asked_in subcommand.Replay rows = replay_in rows
-asked_in subcommand.Check rows = option_map Check (check_in rows)
-asked_in subcommand.Run rows = run_in rows
-asked_in subcommand.Stop rows = Some (Stop (record {
-  stamps = word_in (codes "STAMPS") rows;
+abbrev pub asked_in : Subcommand → List Row → Asking
+asked_in subcommand.Day rows = Day (day_in rows)
+asked_in subcommand.Chart rows = Chart (record {
+  day = day_in rows;
+  days = min 7 (number_or 1 (codes "days") rows);
+  declarations = first_of (codes "declarations") rows;
+})
+asked_in subcommand.Replay rows = Replay (record {
+  table = value_or [] (codes "TABLE") rows;
+  script = value_or [] (codes "SCRIPT") rows;
+  max = number_or 1440 (codes "max") rows;
+  anacrontab = first_of (codes "anacrontab") rows;
+  declarations = first_of (codes "declarations") rows;
+  judge = has_flag (codes "judge") rows;
+  log = has_flag (codes "log") rows;
+  show_script = has_flag (codes "script") rows;
+})
+asked_in subcommand.Check rows = Check (check_in rows)
+asked_in subcommand.Run rows = Run (record {
+  check = check_in rows;
+  stamps = value_or [] (codes "STAMPS") rows;
+  minutes = optional_number (codes "minutes") rows;
+  log = first_of (codes "log") rows;
+  output = first_of (codes "output") rows;
+  keep = optional_number (codes "keep") rows;
+  home = has_flag (codes "home") rows;
+  on_overrun = first_of (codes "on-overrun") rows;
+  on_failure = first_of (codes "on-failure") rows;
+})
+asked_in subcommand.Stop rows = Stop (record {
+  stamps = value_or [] (codes "STAMPS") rows;
   now = has_flag (codes "now") rows;
-}))
-asked_in subcommand.Reload rows = Some (Reload (word_in (codes "STAMPS") rows))
-asked_in subcommand.Status rows = Some (Status (record {
-  stamps = word_in (codes "STAMPS") rows;
+})
+asked_in subcommand.Reload rows = Reload (value_or [] (codes "STAMPS") rows)
+asked_in subcommand.Status rows = Status (record {
+  stamps = value_or [] (codes "STAMPS") rows;
   json = has_flag (codes "json") rows;
-}))
-asked_in subcommand.Judge rows = option_map Judge (judge_in rows)
-asked_in subcommand.Make rows = make_in rows
-asked_in subcommand.Advise rows = advise_in rows
-asked_in subcommand.Room rows = option_map Room (judge_in rows)
-asked_in subcommand.Gather rows = gather_in rows
-asked_in subcommand.Draft rows = draft_in rows
-asked_in subcommand.Learn rows = learn_in rows
-asked_in subcommand.Lint rows = lint_in rows
-asked_in subcommand.Chart rows = chart_in rows
-asked_in subcommand.Explain rows = Some (Explain (first_of (codes "NAME") rows))
-asked_in subcommand.Help rows = help_in rows
+})
+asked_in subcommand.Judge rows = Judge (judge_in rows)
+asked_in subcommand.Make rows =
+    Make (record { judge = judge_in rows; compact = has_flag (codes "compact") rows })
+asked_in subcommand.Advise rows =
+    Advise (record { judge = judge_in rows; within = number_or 120 (codes "within") rows })
+asked_in subcommand.Room rows = Room (judge_in rows)
+asked_in subcommand.Gather rows = Gather (record {
+  root = first_of (codes "root") rows;
+  system = values_in (codes "system") rows;
+  user = values_in (codes "user") rows;
+})
+asked_in subcommand.Draft rows = Draft (record {
+  table = value_or [] (codes "TABLE") rows;
+  max = number_or 60 (codes "max") rows;
+  anacrontab = first_of (codes "anacrontab") rows;
+  update = first_of (codes "update") rows;
+})
+asked_in subcommand.Learn rows = Learn (record {
+  table = value_or [] (codes "TABLE") rows;
+  logs = values_in (codes "LOG") rows;
+  factor = value_or (codes "1.5") (codes "factor") rows;
+  update = first_of (codes "update") rows;
+})
+asked_in subcommand.Lint rows = Lint (record {
+  table = value_or [] (codes "TABLE") rows;
+  declarations = first_of (codes "DECLS") rows;
+  anacrontab = first_of (codes "anacrontab") rows;
+  zone = first_of (codes "zone") rows;
+  only = values_in (codes "only") rows;
+  except = values_in (codes "except") rows;
+  faults_only = has_flag (codes "faults-only") rows;
+})
+asked_in subcommand.Explain rows = Explain (first_of (codes "NAME") rows)
+asked_in subcommand.Help rows = HelpAsking
 
+-- what is asked with a name and the words after it
 abbrev pub asked_by : Text → List Row → Option Asking
-asked_by name rows = option_and_then (λ s. asked_in s rows) (subcommand_named name)
+asked_by name rows = option_and_then
+    (λ s. if is_wrong s rows then None else Some (asked_in s rows)) (subcommand_named name)
 
 -- what words ask, the first of which is the program's name
 abbrev pub asked_of : List Text → Option Asking
@@ -522,16 +334,41 @@ Asks words a = (fault_of cronsafe_app words ≡ []) × (asked_of words ≡ Some 
 
 -- the words are a call for help, by `--help` or by the subcommand `help`
 abbrev pub AsksHelp : List Text → Type 0
-AsksHelp words = IsAmong DisplayHelp (fault_of cronsafe_app words) ⊎ Asks words Help
+AsksHelp words = IsAmong DisplayHelp (fault_of cronsafe_app words) ⊎ Asks words HelpAsking
 
 -- the words are a call for the version
 abbrev pub AsksVersion : List Text → Type 0
 AsksVersion words = IsAmong DisplayVersion (fault_of cronsafe_app words)
 
--- the words are no call: `clap` refuses them; or a number is none, standard input is named twice,
--- a word is missing beside another one, or help is asked of what is no subcommand
+-- the words are no call: `clap` refuses them, or they are wrong
 abbrev pub IsNoCall : List Text → Type 0
 IsNoCall words =
     ((fault : ErrorKind) × IsAmong fault (fault_of cronsafe_app words) × (fault ≢ DisplayHelp)
     × (fault ≢ DisplayVersion))
     ⊎ ((fault_of cronsafe_app words ≡ []) × (asked_of words ≡ None))
+
+-- the words ask what is answered; help and the version are answered where they are asked for, and a
+-- fault of the words where there is one
+abbrev pub Parses : List Text → Result Request UsageFault → Type 0
+Parses words (Ok r) = Asks words (asking r)
+Parses words (Err (Help text)) = AsksHelp words
+Parses words (Err Version) = AsksVersion words
+Parses words (Err (NoCall text)) = IsNoCall words
+Parses words (Err OutOfMemory) = ⊤
+
+-- what is asked is answered: by what is asked, by help where that is asked, and by a fault of the
+-- words where nothing is
+abbrev pub Answers : Option Asking → Result Request UsageFault → Type 0
+Answers wanted (Ok r) = wanted ≡ Some (asking r)
+Answers wanted (Err (Help text)) = wanted ≡ Some HelpAsking
+Answers wanted (Err Version) = ⊥
+Answers wanted (Err (NoCall text)) = wanted ≡ None
+Answers wanted (Err OutOfMemory) = ⊤
+
+-- what a fault of `clap` is here
+abbrev pub FaultOf : Error → UsageFault → Type 0
+FaultOf e (Help text) = kind_of e ≡ DisplayHelp
+FaultOf e Version = kind_of e ≡ DisplayVersion
+FaultOf e (NoCall text) =
+    (kind_of e ≢ DisplayHelp) × (kind_of e ≢ DisplayVersion) × (kind_of e ≢ kind.OutOfMemory)
+FaultOf e OutOfMemory = ⊤

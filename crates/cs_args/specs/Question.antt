@@ -2,7 +2,7 @@
 use Rattle.std.specs.Prelude.{◌≡◌, ◌⊎◌, ◌≤◌, ◌<◌, ℕ, List, codes}
 use Rattle.cs_civil.specs.Calendar.{last_day}
 use Rattle.cs_civil.specs.Text.{IsDateText, day_text}
-use Rattle.cs_args.specs.CommandLine.{Asked}
+use Rattle.cs_args.specs.Asked.{Asked}
 
 -- the first day of a history, 1970-01-04
 abbrev pub first_start_day : ℕ

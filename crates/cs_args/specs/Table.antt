@@ -1,9 +1,9 @@
 -- The table of the subcommands, as contracts see it.
-use Rattle.std.specs.Prelude.{◌≡◌, List, false}
-use Rattle.clap.specs.Words.{Row, Rule, Text, found_of, rows_of}
+use Rattle.std.specs.Prelude.{◌≡◌, List, Some, false, true}
+use Rattle.clap.specs.Words.{Row, Rule, Text, found_of, new_rule, rows_of}
+use Rattle.clap.specs.declared.builder.action.ArgAction.TheVariants.{Append, SetTrue}
 use Rattle.clap.specs.declared.builder.command.Command.{Command}
 use Rattle.clap.specs.declared.builder.command.Command.TheViews.{out-Command as fields_of}
-use Rattle.cs_args.specs.CommandLine.{flag, optional_word, value, values, word, words}
 use Rattle.cs_args.specs.declared.command_line.Given.{Given}
 use Rattle.cs_args.specs.declared.table.Argument.{Argument}
 use Rattle.cs_args.specs.declared.table.Takes.{Takes}
@@ -14,12 +14,13 @@ abbrev pub IsLocal : Command → Type 0
 IsLocal c = (fields_of c).has_globals ≡ false
 
 abbrev pub rule_taking : Takes → Text → Rule
-rule_taking takes.Word = word
-rule_taking takes.OptionalWord = optional_word
-rule_taking takes.Words = words
-rule_taking takes.Flag = flag
-rule_taking (takes.Value name) = value
-rule_taking (takes.Values name) = values
+rule_taking takes.OptionalWord id = new_rule id
+rule_taking takes.Word id = record (new_rule id) { required = true }
+rule_taking takes.Words id = record (new_rule id) { required = true; action = Some Append }
+rule_taking takes.Flag id = record (new_rule id) { long = Some id; action = Some SetTrue }
+rule_taking (takes.Value name) id = record (new_rule id) { long = Some id; value_names = 1 }
+rule_taking (takes.Values name) id =
+    record (new_rule id) { long = Some id; value_names = 1; action = Some Append }
 
 abbrev pub rule_in : Argument → Rule
 rule_in a = rule_taking a.1 a.0.now

@@ -1,14 +1,18 @@
 //! What the words of a call ask.
-ghost use Rattle.std.specs.Prelude.{◌≡◌, IfOk, count_by, map, option_map};
+ghost use Rattle.std.specs.Prelude.{◌≡◌, IfOk, Some, count_by, is_some, map, option_map};
 ghost use Rattle.std.specs.Char.{is_ascii_digit};
 ghost use Rattle.std.specs.List.{list_all};
 ghost use Rattle.clap.specs.Words.{first_of, found_of, rows_of};
-ghost use Rattle.cs_args.specs.CommandLine.{Help, asked_by, asked_in, check_in, day_up_to, has_flag, help_in, is_dash, is_twice_standard, judge_in};
-ghost use Rattle.cs_args.specs.CommandLine.{advise_in, chart_in, draft_in, gather_in, learn_in, lint_in, make_in, replay_in, run_in};
-ghost use Rattle.cs_args.specs.CommandLine.{number_of, optional_number_of, value_or, values_in};
-ghost use Rattle.cs_args.specs.Asked.{Answers, AnswersFor, FaultOf, Parses, RefusesIf};
-ghost use Rattle.cs_args.specs.Asked.{asked, asked_check, asked_judge};
+ghost use Rattle.cs_args.specs.Asked.{Chart, Draft, Gather, Learn, Lint, Replay, Run};
+ghost use Rattle.cs_args.specs.Asked.{asked, asked_chart, asked_check, asked_gather, asked_judge};
+ghost use Rattle.cs_args.specs.Asked.{asked_draft, asked_learn, asked_lint, asked_replay, asked_run};
+ghost use Rattle.cs_args.specs.CommandLine.{Answers, FaultOf, Parses, asked_by, asked_in, check_in};
+ghost use Rattle.cs_args.specs.CommandLine.{day_in, has_flag, has_no_number, has_unknown_name};
+ghost use Rattle.cs_args.specs.CommandLine.{is_dash, is_given, is_misfit, is_twice_standard};
+ghost use Rattle.cs_args.specs.CommandLine.{is_wrong, judge_in, lacks, number_of, number_or};
+ghost use Rattle.cs_args.specs.CommandLine.{optional_number, value_or, values_in};
 ghost use Rattle.cs_args.specs.Table.{words_given};
+ghost use Rattle.cs_args.specs.declared.table.Subcommand.TheVariants as subcommand;
 
 use crate::commands::command;
 use crate::request::{
@@ -20,6 +24,26 @@ use clap::error::ErrorKind;
 use clap::{ArgMatches, Error};
 use std::alloc::{AllocError, Global};
 use std::convert::AsStr;
+
+/// The arguments whose value is a number.
+static NUMBERS: [&str; 8] = [
+    "MAX", "from", "to", "days", "max", "minutes", "keep", "within",
+];
+
+/// The arguments at which `-` is standard input.
+static INPUTS: [&str; 11] = [
+    "TABLE",
+    "DECLS",
+    "CERT",
+    "SCRIPT",
+    "LOG",
+    "anacrontab",
+    "declarations",
+    "update",
+    "zone",
+    "system",
+    "user",
+];
 
 /// What a fault of `clap` is here.
 fn fault_of(alloc: Global, error: &Error) -> UsageFault
@@ -80,6 +104,13 @@ impl<'a, 'm> Given<'a, 'm> {
         self.matches.get_str(id)
     }
 
+    /// Whether an argument is given.
+    fn is_given(self, id: &str) -> bool
+        ensures { result ≡ is_given id.now (words_given self.entry) }
+    {
+        self.value(id).is_some()
+    }
+
     /// The first value of an argument, and this text where it has none.
     fn text(self, id: &str, absent: &'a str) -> &'a str
         ensures { result.now ≡ value_or absent.now id.now (words_given self.entry) }
@@ -136,300 +167,323 @@ impl<'a, 'm> Given<'a, 'm> {
         false
     }
 
-    /// What is wrong with the words.
-    fn fault(self, message: &str) -> Result<String, AllocError> {
-        self.subcommand.fault(self.alloc, message)
-    }
-
-    /// A fault where this holds.
-    fn refuse_if(self, is_fault: bool, message: &str) -> Result<(), UsageFault>
-        ensures { RefusesIf is_fault result }
+    /// The number of an argument, if it has one.
+    fn optional_number(self, id: &str) -> Option<u64>
+        ensures { result ≡ optional_number id.now (words_given self.entry) }
     {
-        if is_fault {
-            return Err(UsageFault::NoCall(self.fault(message)?));
+        match self.value(id) {
+            Some(text) => digits(text),
+            None => None,
         }
-        Ok(())
     }
 
-    /// A fault where the paths of these arguments name standard input more than once.
-    fn one_standard(self, ids: &[&str]) -> Result<(), UsageFault>
-        ensures { RefusesIf
-            (is_twice_standard (map (λ id. id.now) ids.now) (words_given self.entry)) result }
+    /// The number of an argument, and this one where it has none.
+    fn number(self, id: &str, absent: u64) -> u64
+        ensures { result ≡ number_or absent id.now (words_given self.entry) }
     {
-        let message = "only one path can be - for standard input";
-        self.refuse_if(self.is_twice_standard(ids), message)
+        match self.optional_number(id) {
+            Some(number) => number,
+            None => absent,
+        }
+    }
+
+    /// The first of these arguments that is given and is no number.
+    fn no_number(self, ids: &[&'static str]) -> Option<&'static str>
+        ensures { is_some result
+            ≡ has_no_number (map (λ id. id.now) ids.now) (words_given self.entry) }
+    {
+        for id in ids {
+            if self.is_given(id) && self.optional_number(id).is_none() {
+                return Some(*id);
+            }
+        }
+        None
     }
 
     /// What is wrong with the number of an argument.
-    fn number_fault(self, name: &str, text: &str) -> Result<String, AllocError> {
-        let message = if !text.is_empty() && has_only_digits(text.as_bytes()) {
-            format!(in self.alloc; "{name} is larger than 18446744073709551615: {text}")?
+    fn number_message(self, id: &str) -> Result<String, AllocError> {
+        let text = self.text(id, "");
+        let dashes = if id == "MAX" { "" } else { "--" };
+        let fault = if !text.is_empty() && has_only_digits(text.as_bytes()) {
+            "larger than 18446744073709551615"
         } else {
-            format!(in self.alloc; "{name} is not a number: {text}")?
+            "not a number"
         };
-        self.fault(message.as_str())
+        format!(in self.alloc; "{dashes}{id} is {fault}: {text}")
     }
 
-    /// The number of an argument.
-    fn number(self, name: &str, text: &str) -> Result<u64, UsageFault>
-        ensures { AnswersFor (λ n. n) (number_of text.now) result }
+    /// The name that `help` is given, if no subcommand has it.
+    fn unknown_name(self) -> Option<&'a str>
+        ensures { is_some result ≡ has_unknown_name (words_given self.entry) }
     {
-        match digits(text) {
-            Some(number) => Ok(number),
-            None => Err(UsageFault::NoCall(self.number_fault(name, text)?)),
+        let Some(name) = self.value("COMMAND") else {
+            return None;
+        };
+        match Subcommand::named(name) {
+            Some(_) => None,
+            None => Some(name),
         }
     }
 
-    /// The number of an argument, if it is given.
-    fn optional_number(self, name: &str, text: Option<&str>) -> Result<Option<u64>, UsageFault>
-        ensures { AnswersFor (λ n. n)
-            (optional_number_of (option_map (λ text. text.now) text.entry)) result }
+    /// What the subcommand asks for that isn't given.
+    fn lacking(self) -> Option<&'static str>
+        ensures { is_some result ≡ lacks self.entry.subcommand (words_given self.entry) }
     {
-        match text {
-            Some(text) => Ok(Some(self.number(name, text)?)),
+        let (max, declarations) = (self.is_given("MAX"), self.is_given("declarations"));
+        let root = self.is_given("root");
+        let (system, user) = (self.is_given("system"), self.is_given("user"));
+        match self.subcommand {
+            Subcommand::Chart if !max && !declarations => {
+                Some("MAX is required without --declarations")
+            }
+            Subcommand::Gather if !root && !system && !user => {
+                Some("one of --root, --system and --user is required")
+            }
+            _ => None,
+        }
+    }
+
+    /// What is wrong with words that don't go together, or with a number.
+    fn misfit(self) -> Option<&'static str>
+        ensures { is_some result ≡ is_misfit (words_given self.entry) }
+    {
+        let (keeps, output) = (self.is_given("keep"), self.is_given("output"));
+        let keep = self.number("keep", 30);
+        let is_twice = self.is_twice_standard(&INPUTS);
+        let (script, log) = (self.has_flag("script"), self.has_flag("log"));
+        let days = self.number("days", 1);
+        let within = self.number("within", 120);
+        if keeps && !output {
+            Some("--keep is given without --output")
+        } else if keep == 0 {
+            Some("--keep is at least 1")
+        } else if is_twice {
+            Some("only one path can be - for standard input")
+        } else if script && !log {
+            Some("--script is given without --log")
+        } else if days == 0 || days > 7 {
+            Some("--days is from 1 to 7")
+        } else if within == 0 || within > 1439 {
+            Some("--within is from 1 to 1439")
+        } else {
+            None
+        }
+    }
+
+    /// What is wrong with the words, if anything is.
+    fn message(self) -> Result<Option<String>, AllocError>
+        ensures { IfOk result (λ message. is_some message
+            ≡ is_wrong self.entry.subcommand (words_given self.entry)) }
+    {
+        if let Some(message) = self.lacking() {
+            return Ok(Some(String::from_str(self.alloc, message)?));
+        }
+        if let Some(id) = self.no_number(&NUMBERS) {
+            return Ok(Some(self.number_message(id)?));
+        }
+        if let Some(name) = self.unknown_name() {
+            let message = format!(in self.alloc; "unrecognized subcommand '{name}'")?;
+            return Ok(Some(message));
+        }
+        match self.misfit() {
+            Some(message) => Ok(Some(String::from_str(self.alloc, message)?)),
             None => Ok(None),
         }
     }
-}
 
-/// What the words of `day` ask, and of `chart` the same of them, where MAX is this text.
-fn day_up_to<'a>(given: Given<'a, '_>, max: &str) -> Result<DayWords<'a>, UsageFault>
-    ensures { AnswersFor asked (day_up_to max.now (words_given given.entry)) result }
-{
-    let max = given.number("MAX", max)?;
-    let from = given.number("--from", given.text("from", "0"))?;
-    let to = given.number("--to", given.text("to", "1440"))?;
-    given.one_standard(&["TABLE", "anacrontab"])?;
-    Ok(DayWords {
-        table: given.text("TABLE", ""),
-        date: given.text("DATE", ""),
-        max,
-        anacrontab: given.value("anacrontab"),
-        from,
-        to,
-    })
-}
-
-/// What the words of `chart` ask.
-fn chart<'a>(given: Given<'a, '_>) -> Result<Request<'a>, UsageFault>
-    ensures { Answers (chart_in (words_given given.entry)) result }
-{
-    let max = given.value("MAX");
-    let declarations = given.value("declarations");
-    given.refuse_if(
-        max.is_none() && declarations.is_none(),
-        "MAX is required without --declarations",
-    )?;
-    let day = day_up_to(given, given.text("MAX", "1440"))?;
-    let days = given.number("--days", given.text("days", "1"))?;
-    given.one_standard(&["TABLE", "anacrontab", "declarations"])?;
-    given.refuse_if(days == 0 || days > 7, "--days is from 1 to 7")?;
-    Ok(Request::Chart(ChartWords {
-        day,
-        days: days as u8,
-        declarations,
-    }))
-}
-
-/// What the words of `replay` ask.
-fn replay<'a>(given: Given<'a, '_>) -> Result<Request<'a>, UsageFault>
-    ensures { Answers (replay_in (words_given given.entry)) result }
-{
-    let max = given.number("--max", given.text("max", "1440"))?;
-    given.one_standard(&["TABLE", "SCRIPT", "anacrontab", "declarations"])?;
-    let log = given.has_flag("log");
-    let show_script = given.has_flag("script");
-    given.refuse_if(show_script && !log, "--script is given without --log")?;
-    Ok(Request::Replay(ReplayWords {
-        table: given.text("TABLE", ""),
-        script: given.text("SCRIPT", ""),
-        max,
-        anacrontab: given.value("anacrontab"),
-        declarations: given.value("declarations"),
-        judge: given.has_flag("judge"),
-        log,
-        show_script,
-    }))
-}
-
-/// What the words of `check` ask, and of `run` the same of them.
-fn check<'a>(given: Given<'a, '_>) -> Result<CheckWords<'a>, UsageFault>
-    ensures { AnswersFor asked_check (check_in (words_given given.entry)) result }
-{
-    given.one_standard(&["TABLE", "DECLS", "CERT", "anacrontab"])?;
-    Ok(CheckWords {
-        table: given.text("TABLE", ""),
-        declarations: given.text("DECLS", ""),
-        certificate: given.text("CERT", ""),
-        anacrontab: given.value("anacrontab"),
-    })
-}
-
-/// What the words of `run` ask.
-fn run<'a>(given: Given<'a, '_>) -> Result<Request<'a>, UsageFault>
-    ensures { Answers (run_in (words_given given.entry)) result }
-{
-    let minutes = given.optional_number("--minutes", given.value("minutes"))?;
-    let keep = given.optional_number("--keep", given.value("keep"))?;
-    let output = given.value("output");
-    given.refuse_if(
-        keep.is_some() && output.is_none(),
-        "--keep is given without --output",
-    )?;
-    given.refuse_if(keep == Some(0), "--keep is at least 1")?;
-    Ok(Request::Run(RunWords {
-        check: check(given)?,
-        stamps: given.text("STAMPS", ""),
-        minutes,
-        log: given.value("log"),
-        output,
-        keep,
-        home: given.has_flag("home"),
-        on_overrun: given.value("on-overrun"),
-        on_failure: given.value("on-failure"),
-    }))
-}
-
-/// What the words of `judge` and `room` ask, and of `make` and `advise` the same of them.
-fn judge<'a>(given: Given<'a, '_>) -> Result<JudgeWords<'a>, UsageFault>
-    ensures { AnswersFor asked_judge (judge_in (words_given given.entry)) result }
-{
-    given.one_standard(&["TABLE", "DECLS", "anacrontab"])?;
-    Ok(JudgeWords {
-        table: given.text("TABLE", ""),
-        declarations: given.text("DECLS", ""),
-        anacrontab: given.value("anacrontab"),
-    })
-}
-
-/// What the words of `make` ask.
-fn make<'a>(given: Given<'a, '_>) -> Result<Request<'a>, UsageFault>
-    ensures { Answers (make_in (words_given given.entry)) result }
-{
-    let judge = judge(given)?;
-    let compact = given.has_flag("compact");
-    Ok(Request::Make(MakeWords { judge, compact }))
-}
-
-/// What the words of `advise` ask.
-fn advise<'a>(given: Given<'a, '_>) -> Result<Request<'a>, UsageFault>
-    ensures { Answers (advise_in (words_given given.entry)) result }
-{
-    let judge = judge(given)?;
-    let within = given.number("--within", given.text("within", "120"))?;
-    given.refuse_if(within == 0 || within > 1439, "--within is from 1 to 1439")?;
-    Ok(Request::Advise(AdviseWords { judge, within }))
-}
-
-/// What the words of `gather` ask.
-fn gather<'a>(given: Given<'a, '_>) -> Result<Request<'a>, UsageFault>
-    ensures { Answers (gather_in (words_given given.entry)) result }
-{
-    let root = given.value("root");
-    given.refuse_if(
-        root.is_none() && given.value("system").is_none() && given.value("user").is_none(),
-        "one of --root, --system and --user is required",
-    )?;
-    given.one_standard(&["system", "user"])?;
-    let system = given.values("system")?;
-    let user = given.values("user")?;
-    Ok(Request::Gather(GatherWords { root, system, user }))
-}
-
-/// What the words of `draft` ask.
-fn draft<'a>(given: Given<'a, '_>) -> Result<Request<'a>, UsageFault>
-    ensures { Answers (draft_in (words_given given.entry)) result }
-{
-    let max = given.number("--max", given.text("max", "60"))?;
-    given.one_standard(&["TABLE", "anacrontab", "update"])?;
-    Ok(Request::Draft(DraftWords {
-        table: given.text("TABLE", ""),
-        max,
-        anacrontab: given.value("anacrontab"),
-        update: given.value("update"),
-    }))
-}
-
-/// What the words of `learn` ask.
-fn learn<'a>(given: Given<'a, '_>) -> Result<Request<'a>, UsageFault>
-    ensures { Answers (learn_in (words_given given.entry)) result }
-{
-    given.one_standard(&["TABLE", "LOG", "update"])?;
-    Ok(Request::Learn(LearnWords {
-        table: given.text("TABLE", ""),
-        logs: given.values("LOG")?,
-        factor: given.text("factor", "1.5"),
-        update: given.value("update"),
-    }))
-}
-
-/// What the words of `lint` ask.
-fn lint<'a>(given: Given<'a, '_>) -> Result<Request<'a>, UsageFault>
-    ensures { Answers (lint_in (words_given given.entry)) result }
-{
-    given.one_standard(&["TABLE", "DECLS", "anacrontab", "zone"])?;
-    let only = given.values("only")?;
-    let except = given.values("except")?;
-    Ok(Request::Lint(LintWords {
-        table: given.text("TABLE", ""),
-        declarations: given.value("DECLS"),
-        anacrontab: given.value("anacrontab"),
-        zone: given.value("zone"),
-        only,
-        except,
-        faults_only: given.has_flag("faults-only"),
-    }))
-}
-
-/// The help that the words of `help` ask for, of the program or of a subcommand.
-fn help_text(given: Given<'_, '_>) -> Result<String, UsageFault>
-    ensures { AnswersFor (λ text. Help) (help_in (words_given given.entry)) result }
-{
-    let Some(name) = given.value("COMMAND") else {
-        return Ok(command(given.alloc)?.render_help()?);
-    };
-    match Subcommand::named(name) {
-        Some(subcommand) => Ok(subcommand.help(given.alloc)?),
-        None => {
-            let message = format!(in given.alloc; "unrecognized subcommand '{name}'")?;
-            Err(UsageFault::NoCall(given.fault(message.as_str())?))
+    /// What `day` is asked, and of `chart` the same.
+    fn day(self) -> DayWords<'a>
+        ensures { asked result ≡ day_in (words_given self.entry) }
+    {
+        DayWords {
+            table: self.text("TABLE", ""),
+            date: self.text("DATE", ""),
+            max: self.number("MAX", 1440),
+            anacrontab: self.value("anacrontab"),
+            from: self.number("from", 0),
+            to: self.number("to", 1440),
         }
     }
-}
 
-/// What the words of a subcommand ask.
-fn asked_in<'a>(given: Given<'a, '_>) -> Result<Request<'a>, UsageFault>
-    ensures { Answers (asked_in given.entry.subcommand (words_given given.entry)) result }
-{
-    match given.subcommand {
-        Subcommand::Judge => Ok(Request::Judge(judge(given)?)),
-        Subcommand::Check => Ok(Request::Check(check(given)?)),
-        Subcommand::Make => make(given),
-        Subcommand::Advise => advise(given),
-        Subcommand::Room => Ok(Request::Room(judge(given)?)),
-        Subcommand::Run => run(given),
-        Subcommand::Stop => Ok(Request::Stop(StopWords {
-            stamps: given.text("STAMPS", ""),
-            now: given.has_flag("now"),
-        })),
-        Subcommand::Reload => Ok(Request::Reload(given.text("STAMPS", ""))),
-        Subcommand::Status => Ok(Request::Status(StatusWords {
-            stamps: given.text("STAMPS", ""),
-            json: given.has_flag("json"),
-        })),
-        Subcommand::Gather => gather(given),
-        Subcommand::Draft => draft(given),
-        Subcommand::Learn => learn(given),
-        Subcommand::Lint => lint(given),
-        Subcommand::Day => Ok(Request::Day(day_up_to(given, given.text("MAX", ""))?)),
-        Subcommand::Chart => chart(given),
-        Subcommand::Replay => replay(given),
-        Subcommand::Explain => Ok(Request::Explain(given.value("NAME"))),
-        Subcommand::Help => Err(UsageFault::Help(help_text(given)?)),
+    /// What `chart` is asked.
+    fn chart(self) -> ChartWords<'a>
+        ensures { Chart (asked_chart result)
+            ≡ asked_in subcommand.Chart (words_given self.entry) }
+    {
+        ChartWords {
+            day: self.day(),
+            days: self.number("days", 1).min(7) as u8,
+            declarations: self.value("declarations"),
+        }
+    }
+
+    /// What `replay` is asked.
+    fn replay(self) -> ReplayWords<'a>
+        ensures { Replay (asked_replay result)
+            ≡ asked_in subcommand.Replay (words_given self.entry) }
+    {
+        ReplayWords {
+            table: self.text("TABLE", ""),
+            script: self.text("SCRIPT", ""),
+            max: self.number("max", 1440),
+            anacrontab: self.value("anacrontab"),
+            declarations: self.value("declarations"),
+            judge: self.has_flag("judge"),
+            log: self.has_flag("log"),
+            show_script: self.has_flag("script"),
+        }
+    }
+
+    /// What `check` is asked, and of `run` the same.
+    fn check(self) -> CheckWords<'a>
+        ensures { asked_check result ≡ check_in (words_given self.entry) }
+    {
+        CheckWords {
+            table: self.text("TABLE", ""),
+            declarations: self.text("DECLS", ""),
+            certificate: self.text("CERT", ""),
+            anacrontab: self.value("anacrontab"),
+        }
+    }
+
+    /// What `run` is asked.
+    fn run(self) -> RunWords<'a>
+        ensures { Run (asked_run result) ≡ asked_in subcommand.Run (words_given self.entry) }
+    {
+        RunWords {
+            check: self.check(),
+            stamps: self.text("STAMPS", ""),
+            minutes: self.optional_number("minutes"),
+            log: self.value("log"),
+            output: self.value("output"),
+            keep: self.optional_number("keep"),
+            home: self.has_flag("home"),
+            on_overrun: self.value("on-overrun"),
+            on_failure: self.value("on-failure"),
+        }
+    }
+
+    /// What `judge` and `room` are asked, and of `make` and `advise` the same.
+    fn judge(self) -> JudgeWords<'a>
+        ensures { asked_judge result ≡ judge_in (words_given self.entry) }
+    {
+        JudgeWords {
+            table: self.text("TABLE", ""),
+            declarations: self.text("DECLS", ""),
+            anacrontab: self.value("anacrontab"),
+        }
+    }
+
+    /// What `gather` is asked.
+    fn gather(self) -> Result<GatherWords<'a>, AllocError>
+        ensures { IfOk result (λ g. Gather (asked_gather g)
+            ≡ asked_in subcommand.Gather (words_given self.entry)) }
+    {
+        let system = self.values("system")?;
+        let user = self.values("user")?;
+        Ok(GatherWords {
+            root: self.value("root"),
+            system,
+            user,
+        })
+    }
+
+    /// What `draft` is asked.
+    fn draft(self) -> DraftWords<'a>
+        ensures { Draft (asked_draft result) ≡ asked_in subcommand.Draft (words_given self.entry) }
+    {
+        DraftWords {
+            table: self.text("TABLE", ""),
+            max: self.number("max", 60),
+            anacrontab: self.value("anacrontab"),
+            update: self.value("update"),
+        }
+    }
+
+    /// What `learn` is asked.
+    fn learn(self) -> Result<LearnWords<'a>, AllocError>
+        ensures { IfOk result (λ l. Learn (asked_learn l)
+            ≡ asked_in subcommand.Learn (words_given self.entry)) }
+    {
+        Ok(LearnWords {
+            table: self.text("TABLE", ""),
+            logs: self.values("LOG")?,
+            factor: self.text("factor", "1.5"),
+            update: self.value("update"),
+        })
+    }
+
+    /// What `lint` is asked.
+    fn lint(self) -> Result<LintWords<'a>, AllocError>
+        ensures { IfOk result (λ l. Lint (asked_lint l)
+            ≡ asked_in subcommand.Lint (words_given self.entry)) }
+    {
+        let only = self.values("only")?;
+        let except = self.values("except")?;
+        Ok(LintWords {
+            table: self.text("TABLE", ""),
+            declarations: self.value("DECLS"),
+            anacrontab: self.value("anacrontab"),
+            zone: self.value("zone"),
+            only,
+            except,
+            faults_only: self.has_flag("faults-only"),
+        })
+    }
+
+    /// The help of the program, or of the subcommand that `help` is given.
+    fn help(self) -> Result<String, AllocError> {
+        if let Some(name) = self.value("COMMAND") {
+            if let Some(subcommand) = Subcommand::named(name) {
+                return subcommand.help(self.alloc);
+            }
+        }
+        command(self.alloc)?.render_help()
+    }
+
+    /// What the words ask, where nothing is wrong with them.
+    fn request(self) -> Result<Request<'a>, UsageFault>
+        ensures { Answers
+            (Some (asked_in self.entry.subcommand (words_given self.entry))) result }
+    {
+        let stamps = self.text("STAMPS", "");
+        match self.subcommand {
+            Subcommand::Judge => Ok(Request::Judge(self.judge())),
+            Subcommand::Check => Ok(Request::Check(self.check())),
+            Subcommand::Make => Ok(Request::Make(MakeWords {
+                judge: self.judge(),
+                compact: self.has_flag("compact"),
+            })),
+            Subcommand::Advise => Ok(Request::Advise(AdviseWords {
+                judge: self.judge(),
+                within: self.number("within", 120),
+            })),
+            Subcommand::Room => Ok(Request::Room(self.judge())),
+            Subcommand::Run => Ok(Request::Run(self.run())),
+            Subcommand::Stop => Ok(Request::Stop(StopWords {
+                stamps,
+                now: self.has_flag("now"),
+            })),
+            Subcommand::Reload => Ok(Request::Reload(stamps)),
+            Subcommand::Status => Ok(Request::Status(StatusWords {
+                stamps,
+                json: self.has_flag("json"),
+            })),
+            Subcommand::Gather => Ok(Request::Gather(self.gather()?)),
+            Subcommand::Draft => Ok(Request::Draft(self.draft())),
+            Subcommand::Learn => Ok(Request::Learn(self.learn()?)),
+            Subcommand::Lint => Ok(Request::Lint(self.lint()?)),
+            Subcommand::Day => Ok(Request::Day(self.day())),
+            Subcommand::Chart => Ok(Request::Chart(self.chart())),
+            Subcommand::Replay => Ok(Request::Replay(self.replay())),
+            Subcommand::Explain => Ok(Request::Explain(self.value("NAME"))),
+            Subcommand::Help => Err(UsageFault::Help(self.help()?)),
+        }
     }
 }
 
 /// What the words of a subcommand ask, by its name.
+#[tactic(auto, using(crate::proofs::CommandLineLemmas::refused, crate::proofs::CommandLineLemmas::answered))]
 fn asked_by<'a>(
     alloc: Global,
     name: &str,
@@ -441,11 +495,15 @@ fn asked_by<'a>(
         let text = String::from_str(alloc, "error: a subcommand is required\n")?;
         return Err(UsageFault::NoCall(text));
     };
-    asked_in(Given {
+    let given = Given {
         alloc,
         subcommand,
         matches,
-    })
+    };
+    match given.message()? {
+        Some(message) => Err(UsageFault::NoCall(subcommand.fault(alloc, message.as_str())?)),
+        None => given.request(),
+    }
 }
 
 /// What the words of a call ask, the first of which is the program's name.

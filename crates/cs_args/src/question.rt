@@ -2,7 +2,7 @@
 ghost use Rattle.std.specs.Prelude.{◌≡◌, ◌≤◌, ◌<◌, ◌++◌, IfOk, IfErr, IfSome, IsNone, codes};
 ghost use Rattle.cs_civil.specs.Faults.{fault_text};
 ghost use Rattle.cs_args.specs.Asked.{asked};
-ghost use Rattle.cs_args.specs.Question.{IsBadDate, IsBadWord, IsQuestion, IsTime, NamesDay, longest_time};
+ghost use Rattle.cs_args.specs.Question.{IsBadDate, IsBadWord, IsQuestion, IsTime, NamesDay};
 ghost use Rattle.cs_args.specs.Words.{word_fault};
 
 use crate::request::DayWords;

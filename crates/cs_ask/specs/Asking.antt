@@ -2,44 +2,37 @@
 use Rattle.std.specs.Prelude.{◌≡◌, ◌⊎◌, ◌++◌, ℕ, List, [], codes}
 use Rattle.cs_files.specs.Response.{Ending, complaint}
 use Rattle.cs_files.specs.Ending.{Ends, RunsOut, Sink, Tries}
-use Rattle.cs_ask.specs.declared.asking.Absence.{Absence}
-use Rattle.cs_ask.specs.declared.asking.Absence.TheVariants.{NoDaemon, NoFolder, Unlocked}
 use Rattle.cs_ask.specs.declared.asking.Refusal.{Refusal}
-use Rattle.cs_ask.specs.declared.asking.Refusal.TheVariants.{Another, NoneToAsk, NotAsked, Unanswered}
+use Rattle.cs_ask.specs.declared.asking.Refusal.TheVariants.{Another, NoDaemon, NoFolder, NotAsked, Unanswered, Unlocked, Untold}
 
--- what is said where there is no daemon, in front of the folder's path
-abbrev pub in_front : Absence → List ℕ
-in_front NoFolder = codes "no folder "
-in_front NoDaemon = codes "no daemon uses "
-in_front Unlocked = codes "can't lock "
-
--- the status then
-abbrev pub absence_status : Absence → ℕ
-absence_status NoFolder = 6
-absence_status NoDaemon = 2
-absence_status Unlocked = 6
-
--- what is said where a daemon doesn't do what it is asked, in front of the folder's path
+-- what is said where a daemon doesn't do what it is asked, or its state isn't told, in front of the
+-- folder's path
 abbrev pub in_front_of : Refusal → List ℕ
-in_front_of (NoneToAsk absence) = in_front absence
+in_front_of NoFolder = codes "no folder "
+in_front_of NoDaemon = codes "no daemon uses "
+in_front_of Unlocked = codes "can't lock "
 in_front_of NotAsked = codes "can't write to "
 in_front_of Another = codes "another daemon uses "
 in_front_of Unanswered = codes "can't read the answer in "
+in_front_of Untold = codes "can't read the state in "
 
 -- the status then
 abbrev pub refusal_status : Refusal → ℕ
-refusal_status (NoneToAsk absence) = absence_status absence
+refusal_status NoFolder = 6
+refusal_status NoDaemon = 2
+refusal_status Unlocked = 6
 refusal_status NotAsked = 6
 refusal_status Another = 6
 refusal_status Unanswered = 6
-
--- a complaint, in front of a folder's path
-abbrev pub faulty : ℕ → List ℕ → List ℕ → Ending
-faulty status front folder = record { status = status; out = []; err = complaint (front ++ folder) }
+refusal_status Untold = 6
 
 -- what is answered then
 abbrev pub refused : Refusal → List ℕ → Ending
-refused refusal folder = faulty (refusal_status refusal) (in_front_of refusal) folder
+refused refusal folder = record {
+  status = refusal_status refusal;
+  out = [];
+  err = complaint (in_front_of refusal ++ folder);
+}
 
 -- it is told, or memory ran out
 abbrev pub Refuses : Refusal → List ℕ → Sink → Sink → Sink → Sink → ℕ → Type 0

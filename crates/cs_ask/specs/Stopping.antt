@@ -1,6 +1,6 @@
 -- What comes of stopping the daemon of a folder of stamps.
 use Rattle.std.specs.Prelude.{◌≡◌, ◌⊎◌, ℕ, List, true, codes}
-use Rattle.cs_args.specs.CommandLine.{AskedStop}
+use Rattle.cs_args.specs.Asked.{AskedStop}
 use Rattle.cs_ask.specs.Asking.{MayTell, refused}
 use Rattle.cs_files.specs.Ending.{Ends, RunsOut, Sink}
 use Rattle.cs_ask.specs.declared.asking.Refusal.{Refusal}

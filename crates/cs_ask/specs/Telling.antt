@@ -1,26 +1,11 @@
 -- What comes of telling what the daemon of a folder of stamps does.
 use Rattle.std.specs.Prelude.{◌≡◌, ◌⊎◌, ◌++◌, ℕ, List, [], codes}
 use Rattle.cs_files.specs.Response.{Ending, complaint}
-use Rattle.cs_ask.specs.Asking.{absence_status, faulty, in_front}
+use Rattle.cs_ask.specs.Asking.{refused}
 use Rattle.cs_files.specs.Ending.{Ends, RunsOut, Sink}
-use Rattle.cs_ask.specs.declared.telling.Silence.{Silence}
-use Rattle.cs_ask.specs.declared.telling.Silence.TheVariants.{NoneToAsk, Unread}
+use Rattle.cs_ask.specs.declared.asking.Refusal.{Refusal}
 use Rattle.cs_ask.specs.declared.telling.Health.{Health}
 use Rattle.cs_ask.specs.declared.telling.Health.TheVariants.{Fine, Faulty, Old}
-
--- what is said where no state is told, in front of the folder's path
-abbrev pub in_front_of_none : Silence → List ℕ
-in_front_of_none (NoneToAsk absence) = in_front absence
-in_front_of_none Unread = codes "can't read the state in "
-
--- the status then
-abbrev pub silence_status : Silence → ℕ
-silence_status (NoneToAsk absence) = absence_status absence
-silence_status Unread = 6
-
--- what is answered then
-abbrev pub untold : Silence → List ℕ → Ending
-untold silence folder = faulty (silence_status silence) (in_front_of_none silence) folder
 
 -- what is said of a state that is too old, in front of the folder's path
 abbrev pub in_front_of_old : List ℕ
@@ -35,7 +20,7 @@ told_as Old text folder =
 
 -- a state is told, or why there is none
 abbrev pub IsAnswer : List ℕ → Ending → Type 0
-IsAnswer folder ending = ((silence : Silence) × (ending ≡ untold silence folder))
+IsAnswer folder ending = ((refusal : Refusal) × (ending ≡ refused refusal folder))
     ⊎ ((health : Health) × (text : List ℕ) × (ending ≡ told_as health text folder))
 
 -- that is written, or memory ran out

@@ -1,8 +1,7 @@
 //! Asking the daemon that uses a folder of stamps.
-ghost use Rattle.std.specs.Prelude.{◌≡◌, ◌++◌, [], IfOk, true};
+ghost use Rattle.std.specs.Prelude.{◌≡◌, ◌++◌, [], IfOk};
 ghost use Rattle.cs_files.specs.Response.{complaint, status_of};
-ghost use Rattle.cs_ask.specs.Asking.{MayTell, Refuses, absence_status, faulty, in_front};
-ghost use Rattle.cs_ask.specs.Asking.{in_front_of, refusal_status, refused};
+ghost use Rattle.cs_ask.specs.Asking.{MayTell, Refuses, in_front_of, refusal_status, refused};
 ghost use Rattle.cs_files.specs.Ending.{sink};
 
 use cs_files::{Response, Status, finish, run_out, tell};
@@ -15,50 +14,23 @@ use std::sync::Wait;
 use std::thread;
 use std::time::Duration;
 
-/// Why there is no daemon to ask.
+/// Why a daemon doesn't do what it is asked, or its state isn't told.
 #[derive(Clone, Copy)]
-pub(crate) enum Absence {
+pub(crate) enum Refusal {
     /// There is no such folder of stamps.
     NoFolder,
     /// No daemon has locked it.
     NoDaemon,
     /// It can't be locked.
     Unlocked,
-}
-
-/// Why a daemon doesn't do what it is asked.
-#[derive(Clone, Copy)]
-pub(crate) enum Refusal {
-    /// There is none to ask.
-    NoneToAsk(Absence),
-    /// The file that asks it can't be made.
+    /// The file that asks the daemon can't be made.
     NotAsked,
-    /// It has ended, and another has locked the folder by now.
+    /// The daemon has ended, and another has locked the folder by now.
     Another,
-    /// What it answered can't be read.
+    /// What the daemon answered can't be read.
     Unanswered,
-}
-
-impl Absence {
-    /// What is said of it, in front of the folder's path.
-    pub(crate) fn text(self) -> &'static str
-        ensures { result.now ≡ in_front self }
-    {
-        match self {
-            Absence::NoFolder => "no folder ",
-            Absence::NoDaemon => "no daemon uses ",
-            Absence::Unlocked => "can't lock ",
-        }
-    }
-
-    pub(crate) fn status(self) -> Status
-        ensures { status_of result ≡ absence_status self }
-    {
-        match self {
-            Absence::NoDaemon => Status::Unknown,
-            _ => Status::DeviceFailed,
-        }
-    }
+    /// The folder holds no state that can be read.
+    Untold,
 }
 
 impl Refusal {
@@ -67,10 +39,13 @@ impl Refusal {
         ensures { result.now ≡ in_front_of self }
     {
         match self {
-            Refusal::NoneToAsk(absence) => absence.text(),
+            Refusal::NoFolder => "no folder ",
+            Refusal::NoDaemon => "no daemon uses ",
+            Refusal::Unlocked => "can't lock ",
             Refusal::NotAsked => "can't write to ",
             Refusal::Another => "another daemon uses ",
             Refusal::Unanswered => "can't read the answer in ",
+            Refusal::Untold => "can't read the state in ",
         }
     }
 
@@ -78,7 +53,7 @@ impl Refusal {
         ensures { status_of result ≡ refusal_status self }
     {
         match self {
-            Refusal::NoneToAsk(absence) => absence.status(),
+            Refusal::NoDaemon => Status::Unknown,
             _ => Status::DeviceFailed,
         }
     }
@@ -87,22 +62,10 @@ impl Refusal {
     pub(crate) fn response(self, alloc: Global, folder: &str) -> Result<Response, AllocError>
         ensures { IfOk result (λ r. r ≡ refused self folder.now) }
     {
-        fault_response(alloc, self.status(), self.text(), folder)
+        let mut fault = Vec::from_slice(alloc, self.text().as_bytes())?;
+        fault.extend_from_slice(folder.as_bytes())?;
+        Response::fault(alloc, self.status(), b"".as_slice(), fault.as_slice())
     }
-}
-
-/// What is answered where a folder can't be used: a complaint, in front of its path.
-pub(crate) fn fault_response(
-    alloc: Global,
-    status: Status,
-    front: &str,
-    folder: &str,
-) -> Result<Response, AllocError>
-    ensures { IfOk result (λ r. r ≡ faulty (status_of status) front.now folder.now) }
-{
-    let mut fault = Vec::from_slice(alloc, front.as_bytes())?;
-    fault.extend_from_slice(folder.as_bytes())?;
-    Response::fault(alloc, status, b"".as_slice(), fault.as_slice())
 }
 
 /// Looks whether a daemon uses a folder.
@@ -110,13 +73,13 @@ pub(crate) fn find_daemon<R: Files<File = File>>(
     rt: &R,
     alloc: Global,
     folder: &str,
-) -> Result<(), Absence> {
+) -> Result<(), Refusal> {
     if StampsFolder::open(rt, alloc, folder).is_err() {
-        return Err(Absence::NoFolder);
+        return Err(Refusal::NoFolder);
     }
     match FolderLock::take(rt, folder) {
-        Ok(_) => Err(Absence::NoDaemon),
-        Err(LockFault::Failed) => Err(Absence::Unlocked),
+        Ok(_) => Err(Refusal::NoDaemon),
+        Err(LockFault::Failed) => Err(Refusal::Unlocked),
         Err(LockFault::InUse) => Ok(()),
     }
 }
@@ -169,18 +132,6 @@ fn wait_a_little<R: Clock, T: Drop, F: Fn() -> Option<T> + Drop>(rt: &R, look: &
     None
 }
 
-/// Looks until there is something, however long that takes.
-fn wait<R: Clock + Wait, T: Drop, F: Fn() -> Option<T> + Drop>(rt: &R, look: &F) -> T
-    requires { F.IsAlwaysCallable look.now }
-{
-    for _ in rt.forever() {
-        if let Some(found) = look_again(rt, look) {
-            return found;
-        }
-    }
-    unreachable!()
-}
-
 /// Looks at a folder until there is something, and tells what it waits for where that takes long.
 pub(crate) fn wait_for<R: Clock + Wait, T: Drop, F: Fn() -> Option<T> + Drop, E: Output>(
     rt: &R,
@@ -196,5 +147,10 @@ pub(crate) fn wait_for<R: Clock + Wait, T: Drop, F: Fn() -> Option<T> + Drop, E:
         return found;
     }
     tell(err, what.as_bytes());
-    wait(rt, &look)
+    for _ in rt.forever() {
+        if let Some(found) = look_again(rt, &look) {
+            return found;
+        }
+    }
+    unreachable!()
 }

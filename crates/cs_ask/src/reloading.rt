@@ -5,7 +5,7 @@ ghost use Rattle.cs_ask.specs.Asking.{MayTell, refused};
 ghost use Rattle.cs_files.specs.Ending.{sink};
 ghost use Rattle.cs_ask.specs.Reloading.{IsOutcome, IsToldOf, Reloads, answer_awaited};
 
-use crate::asking::{Absence, Refusal, find_daemon, wait_for};
+use crate::asking::{Refusal, find_daemon, wait_for};
 use crate::reply::read_reply;
 use cs_civil::Bytes;
 use cs_files::{Response, Status, finish, run_out};
@@ -45,9 +45,9 @@ fn look<R: Files<File = File>>(
     match FolderLock::take(rt, folder) {
         Ok(_lock) => {
             let _ = request.remove(rt);
-            Some(Err(Refusal::NoneToAsk(Absence::NoDaemon)))
+            Some(Err(Refusal::NoDaemon))
         }
-        Err(LockFault::Failed) => Some(Err(Refusal::NoneToAsk(Absence::Unlocked))),
+        Err(LockFault::Failed) => Some(Err(Refusal::Unlocked)),
         Err(LockFault::InUse) => None,
     }
 }
@@ -63,9 +63,7 @@ fn ask_and_wait<R: Files<File = File> + Clock + Wait, E: Output>(
     ensures { MayTell answer_awaited (sink (E.contents err.old) (E.failed err.old))
         (sink (E.contents err.new) (E.failed err.new)) }
 {
-    if let Err(absence) = find_daemon(rt, alloc, folder) {
-        return Err(Refusal::NoneToAsk(absence));
-    }
+    find_daemon(rt, alloc, folder)?;
     // first, that of an earlier call
     if exchange.answer.remove(rt).is_err() || exchange.request.make(rt).is_err() {
         return Err(Refusal::NotAsked);

@@ -6,7 +6,7 @@ ghost use Rattle.cs_ask.specs.Asking.{MayTell};
 ghost use Rattle.cs_files.specs.Ending.{sink};
 ghost use Rattle.cs_ask.specs.Stopping.{Stops, waiting_text};
 
-use crate::asking::{Absence, Refusal, find_daemon, refuse, wait_for};
+use crate::asking::{Refusal, find_daemon, refuse, wait_for};
 use cs_args::StopWords;
 use cs_files::{Status, run_out};
 use cs_io::Output;
@@ -28,7 +28,7 @@ fn look<R: Files<File = File>>(
             let _ = file.remove(rt);
             Some(Ok(()))
         }
-        Err(LockFault::Failed) => Some(Err(Refusal::NoneToAsk(Absence::Unlocked))),
+        Err(LockFault::Failed) => Some(Err(Refusal::Unlocked)),
         Err(LockFault::InUse) if file.is_there(rt) => None,
         Err(LockFault::InUse) => Some(Err(Refusal::Another)),
     }
@@ -48,9 +48,7 @@ fn ask_and_wait<R: Files<File = File> + Clock + Wait, E: Output>(
         → sink (E.contents err.new) (E.failed err.new)
         ≡ sink (E.contents err.old) (E.failed err.old) }
 {
-    if let Err(absence) = find_daemon(rt, alloc, words.stamps) {
-        return Err(Refusal::NoneToAsk(absence));
-    }
+    find_daemon(rt, alloc, words.stamps)?;
     if file.make(rt).is_err() {
         return Err(Refusal::NotAsked);
     }

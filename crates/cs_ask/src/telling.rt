@@ -2,10 +2,10 @@
 ghost use Rattle.std.specs.Prelude.{◌≡◌, ◌++◌, IfOk};
 ghost use Rattle.cs_files.specs.Response.{complaint, status_of};
 ghost use Rattle.cs_files.specs.Ending.{sink};
-ghost use Rattle.cs_ask.specs.Telling.{IsAnswer, Tells, in_front_of_old, in_front_of_none};
-ghost use Rattle.cs_ask.specs.Telling.{silence_status, told_as, untold};
+ghost use Rattle.cs_ask.specs.Asking.{refused};
+ghost use Rattle.cs_ask.specs.Telling.{IsAnswer, Tells, in_front_of_old, told_as};
 
-use crate::asking::{Absence, fault_response, find_daemon};
+use crate::asking::{Refusal, find_daemon};
 use cs_args::StatusWords;
 use cs_civil::Bytes;
 use cs_files::{Response, Status, finish, run_out};
@@ -16,15 +16,6 @@ use std::alloc::{AllocError, Global};
 use std::fs::File;
 use std::rt::{Clock, Files};
 
-/// Why no state is told.
-#[derive(Clone, Copy)]
-pub(crate) enum Silence {
-    /// There is no daemon to ask.
-    NoneToAsk(Absence),
-    /// The folder holds no state that can be read.
-    Unread,
-}
-
 /// How a daemon fares, by its state.
 #[derive(Clone, Copy)]
 pub(crate) enum Health {
@@ -34,45 +25,6 @@ pub(crate) enum Health {
     Faulty,
     /// The state is too old.
     Old,
-}
-
-impl Silence {
-    /// What is said of it, in front of the folder's path.
-    fn text(self) -> &'static str
-        ensures { result.now ≡ in_front_of_none self }
-    {
-        match self {
-            Silence::NoneToAsk(absence) => absence.text(),
-            Silence::Unread => "can't read the state in ",
-        }
-    }
-
-    fn status(self) -> Status
-        ensures { status_of result ≡ silence_status self }
-    {
-        match self {
-            Silence::NoneToAsk(absence) => absence.status(),
-            Silence::Unread => Status::DeviceFailed,
-        }
-    }
-
-    /// What is answered.
-    fn response(self, alloc: Global, folder: &str) -> Result<Response, AllocError>
-        ensures { IfOk result (λ r. r ≡ untold self folder.now) }
-    {
-        fault_response(alloc, self.status(), self.text(), folder)
-    }
-}
-
-/// The state of the daemon that uses a folder.
-fn look<R: Files<File = File>>(rt: &R, alloc: Global, folder: &str) -> Result<Vec<u8>, Silence> {
-    if let Err(absence) = find_daemon(rt, alloc, folder) {
-        return Err(Silence::NoneToAsk(absence));
-    }
-    let Ok(file) = ToldFile::state(alloc, folder) else {
-        return Err(Silence::Unread);
-    };
-    file.read(rt, alloc).map_err(|_| Silence::Unread)
 }
 
 /// How a daemon fares by this machine's clock. Where that can't be read, no state is old.
@@ -115,20 +67,6 @@ fn told_response(
     }
 }
 
-/// The text of a state: as it is, or for people.
-fn text_of(
-    alloc: Global,
-    is_json: bool,
-    state: Vec<u8>,
-    report: &Report,
-) -> Result<Vec<u8>, AllocError> {
-    if is_json {
-        Ok(state)
-    } else {
-        report.text(alloc)
-    }
-}
-
 /// What is answered to a state that was read.
 fn respond_to<R: Clock>(
     rt: &R,
@@ -141,10 +79,24 @@ fn respond_to<R: Clock>(
     let report = match read_report(alloc, state.as_slice()) {
         Ok(report) => report,
         Err(Misread::Memory) => return Err(AllocError),
-        Err(Misread::Fault(_)) => return Silence::Unread.response(alloc, words.stamps),
+        Err(Misread::Fault(_)) => return Refusal::Untold.response(alloc, words.stamps),
     };
-    let text = text_of(alloc, words.json, state, &report)?;
-    told_response(alloc, health_of(rt, &report), text, words.stamps)
+    let health = health_of(rt, &report);
+    let text = if words.json {
+        state
+    } else {
+        report.into_lines()
+    };
+    told_response(alloc, health, text, words.stamps)
+}
+
+/// The state of the daemon that uses a folder.
+fn look<R: Files<File = File>>(rt: &R, alloc: Global, folder: &str) -> Result<Vec<u8>, Refusal> {
+    find_daemon(rt, alloc, folder)?;
+    let Ok(file) = ToldFile::state(alloc, folder) else {
+        return Err(Refusal::Untold);
+    };
+    file.read(rt, alloc).map_err(|_| Refusal::Untold)
 }
 
 /// What is answered to the words of `status`.
@@ -157,7 +109,7 @@ fn answer_status<R: Files<File = File> + Clock>(
 {
     match look(rt, alloc, words.stamps) {
         Ok(state) => respond_to(rt, alloc, words, state),
-        Err(silence) => silence.response(alloc, words.stamps),
+        Err(refusal) => refusal.response(alloc, words.stamps),
     }
 }
 

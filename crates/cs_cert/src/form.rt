@@ -1,6 +1,6 @@
 //! Values in the JSON text of a certificate, and lists of them.
 
-ghost use Rattle.std.specs.Prelude.{◌≡◌, IfOk, List, map, Result, ℕ, [], ◌∷◌};
+ghost use Rattle.std.specs.Prelude.{◌≡◌, IfOk, List, map, Result, [], ◌∷◌};
 ghost use Rattle.serde_json.specs.Data.{Data, array, item, no_items};
 ghost use Rattle.serde_json.specs.View.{items_of, items_view, view};
 ghost use Rattle.serde_json.specs.Find.{as_array};

@@ -41,46 +41,20 @@ impl<'a> Carries<'a> {
         }
     }
 
-    /// At least so much is left when days of these kinds begin; whether that is more than was known.
-    fn raise(&mut self, kinds: &[u16], left: u32) -> bool {
-        let mut is_more = false;
-        for kind in kinds {
-            let place = number_at(self.places, usize::from(*kind));
-            if let Some(before) = self.left.get_mut(usize::from(place)) {
-                is_more = is_more || *before < left;
-                *before = left.max(*before);
-            }
-        }
-        is_more
-    }
-
     /// Takes what each kind of days leaves to those that can come next; whether that is more than was known.
     fn go_on(&mut self) -> bool {
         let mut is_more = false;
         for (kind, next) in self.facts.successors().iter().enumerate() {
             let left = self.after(kind);
-            is_more = self.raise(next.as_slice(), left) || is_more;
-        }
-        is_more
-    }
-
-    /// Goes on until nothing is more than was known; whether that came about.
-    fn settle(&mut self) -> bool {
-        for _ in 0..ROUNDS {
-            if !self.go_on() {
-                return true;
+            for kind in next {
+                let place = number_at(self.places, usize::from(*kind));
+                if let Some(before) = self.left.get_mut(usize::from(place)) {
+                    is_more = is_more || *before < left;
+                    *before = left.max(*before);
+                }
             }
         }
-        false
-    }
-
-    /// What is left when days of each kind begin, by the kind's number.
-    fn by_kind(&self, alloc: Global) -> Result<Vec<u32>, AllocError> {
-        let mut by_kind = Vec::new(alloc);
-        for kind in 0..self.places.len() {
-            by_kind.push(self.before(kind))?;
-        }
-        Ok(by_kind)
+        is_more
     }
 }
 
@@ -98,12 +72,20 @@ pub(crate) fn least_carries(
         places,
         left: Vec::from_elem(alloc, 0, facts.kinds().len())?,
     };
-    if !carries.settle() {
+    let mut is_settled = false;
+    for _ in 0..ROUNDS {
+        is_settled = is_settled || !carries.go_on();
+    }
+    if !is_settled {
         return Ok(None);
     }
-    let by_kind = carries.by_kind(alloc)?;
-    if by_kind.as_slice().iter().any(|left| *left > MOST_LEFT) {
-        return Ok(None);
+    let mut by_kind = Vec::new(alloc);
+    for kind in 0..places.len() {
+        let left = carries.before(kind);
+        if left > MOST_LEFT {
+            return Ok(None);
+        }
+        by_kind.push(left)?;
     }
     Ok(Some(by_kind))
 }

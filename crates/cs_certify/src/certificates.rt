@@ -1,8 +1,11 @@
+ghost use Rattle.std.specs.Prelude.{◌≡◌, IfOk};
+ghost use Rattle.cs_claims.specs.Certificate.{content};
+
 use crate::class::classes_of;
 use crate::day_trees::day_tree;
 use crate::minute_trees::minute_tree;
 use cs_civil::{MINUTES_OF_DAY, Sequence};
-use cs_claims::{CertError, CertFault, Certificate, Stretch};
+use cs_claims::{CertError, CertFault, Certificate, Class, Stretch};
 use cs_profile::{Classing, Facts};
 use cs_windows::{JobReach, Window};
 use std::alloc::{AllocError, Global};
@@ -10,36 +13,56 @@ use std::alloc::{AllocError, Global};
 /// The stretch of successive days of these classes, eldest first, with the windows that hold minutes of the last of them. Its
 /// tree lists them in this order. The only error is want of memory.
 pub fn stretch(alloc: Global, of: &[u16], windows: &[Window]) -> Result<Stretch, AllocError> {
+    let mut classes = Vec::with_capacity(alloc, of.len())?;
+    for class in of {
+        classes.push(u32::from(*class))?;
+    }
     Ok(Stretch {
-        of: Sequence::from_vec(of.iter().map(|class| u32::from(*class)).collect(alloc)?),
+        of: Sequence::from_vec(classes),
         tree: minute_tree(alloc, windows)?,
     })
 }
 
 /// The version that can say this: 1 where no stretch has more than two days and no run goes on for more than a day.
 fn version(facts: &Facts, stretches: &[Stretch], reaches: &[JobReach]) -> u8 {
-    let is_first = stretches.iter().all(|stretch| stretch.of.len() <= 2)
-        && reaches.iter().all(|listed| listed.reach <= MINUTES_OF_DAY)
-        && facts.tasks().iter().all(|task| task.max <= MINUTES_OF_DAY);
-    if is_first { 1 } else { 2 }
+    let mut days = 0;
+    for stretch in stretches {
+        days = stretch.of.len().max(days);
+    }
+    let mut minutes = 0;
+    for listed in reaches {
+        minutes = listed.reach.max(minutes);
+    }
+    for task in facts.tasks() {
+        minutes = task.max.max(minutes);
+    }
+    if days <= 2 && minutes <= MINUTES_OF_DAY {
+        1
+    } else {
+        2
+    }
 }
 
-/// The certificate, with either error as one.
-fn certified(
+/// The certificate of these classes, if they could be made.
+pub(crate) fn certified(
     alloc: Global,
-    facts: &Facts,
+    version: u8,
+    classes: Result<Sequence<Class>, CertError>,
     classing: &Classing,
     stretches: Sequence<Stretch>,
     reaches: &[JobReach],
-) -> Result<Certificate, CertError> {
-    let version = version(facts, stretches.as_slice(), reaches);
-    let classes = classes_of(alloc, facts, &classing.classes)?;
+) -> Result<Result<Certificate, CertFault>, AllocError>
+    ensures { IfOk result (λ made.
+        IfOk made (λ certificate. (content certificate).version ≡ version)) }
+{
+    let classes = match classes {
+        Ok(classes) => classes,
+        Err(CertError::Fault(fault)) => return Ok(Err(fault)),
+        Err(CertError::OutOfMemory) => return Err(AllocError),
+    };
     let kinds = day_tree(alloc, &classing.class_of)?;
     let reach = Sequence::from_slice(alloc, reaches)?;
-    match Certificate::new(version, classes, kinds, stretches, reach) {
-        Ok(certificate) => Ok(certificate),
-        Err(fault) => Err(CertError::Fault(fault)),
-    }
+    Ok(Certificate::new(version, classes, kinds, stretches, reach))
 }
 
 /// The certificate of these classes, of these stretches of their days and of these reaches of jobs that wait. Stretches rise by
@@ -53,9 +76,7 @@ pub fn certificate(
     stretches: Sequence<Stretch>,
     reaches: &[JobReach],
 ) -> Result<Result<Certificate, CertFault>, AllocError> {
-    match certified(alloc, facts, classing, stretches, reaches) {
-        Ok(certificate) => Ok(Ok(certificate)),
-        Err(CertError::Fault(fault)) => Ok(Err(fault)),
-        Err(CertError::OutOfMemory) => Err(AllocError),
-    }
+    let version = version(facts, stretches.as_slice(), reaches);
+    let classes = classes_of(alloc, facts, &classing.classes);
+    certified(alloc, version, classes, classing, stretches, reaches)
 }

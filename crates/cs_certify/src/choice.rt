@@ -11,16 +11,9 @@ const HALVING_SPLITS: u8 = 12;
 /// Of more groups than that none is tried alone.
 const MOST_GROUPS: usize = 16;
 
-/// How good a split is: of two the lesser is the better one.
-#[derive(Clone, Copy, PartialEq, Eq, PartialOrd, Ord)]
-struct Rank {
-    /// The classes inside, and those outside: the less, the fewer stand on both sides.
-    classes: u32,
-    /// Those of the side that has more of them.
-    most: u32,
-    /// How many numbers the split lists.
-    listed: u32,
-}
+/// How good a split is: of two the lesser is the better one. First the number of classes inside and outside together: the less,
+/// the fewer stand on both sides. Then those of the side that has more of them, and then how many numbers the split lists.
+type Rank = (u32, u32, u32);
 
 /// A split: the kinds with one of these numbers there go inside.
 #[derive(Clone, Copy)]
@@ -44,15 +37,6 @@ pub(crate) struct Tally {
     split: u32,
 }
 
-/// The greatest of these classes.
-fn greatest(class_of: &[u16]) -> u16 {
-    let mut greatest = 0;
-    for class in class_of {
-        greatest = greatest.max(*class);
-    }
-    greatest
-}
-
 impl Tally {
     /// A tally of these classes, before any split.
     pub(crate) fn new(alloc: Global, class_of: &[u16]) -> Result<Tally, AllocError> {
@@ -60,8 +44,13 @@ impl Tally {
             inside: 0,
             outside: 0,
         };
+        let mut greatest: u16 = 0;
+        for class in class_of {
+            greatest = greatest.max(*class);
+        }
+        let count = usize::from(greatest).saturating_add(1);
         Ok(Tally {
-            seen: Vec::from_elem(alloc, never, usize::from(greatest(class_of)) + 1)?,
+            seen: Vec::from_elem(alloc, never, count)?,
             split: 0,
         })
     }
@@ -93,15 +82,11 @@ impl Tally {
                 without = without.saturating_add(u32::from(!inside));
             }
         }
-        let rank = Rank {
-            classes: within.saturating_add(without),
-            most: within.max(without),
-            listed: numbers.count(),
-        };
+        let classes = within.saturating_add(without);
         Choice {
             part,
             numbers,
-            rank,
+            rank: (classes, within.max(without), numbers.count()),
         }
     }
 }
@@ -113,15 +98,6 @@ fn half_of(numbers: Numbers) -> Numbers {
         if numbers.has(number) && half.count() < numbers.count() / 2 {
             half = half.with(number);
         }
-    }
-    half
-}
-
-/// The numbers of the first half of the groups.
-fn first_half(groups: &[Numbers]) -> Numbers {
-    let mut half = Numbers::none();
-    for group in groups.iter().take(groups.len() / 2) {
-        half = half.with_all(*group);
     }
     half
 }
@@ -154,37 +130,15 @@ fn candidates(
         found.push(half_of(possible))?;
         return Ok(found);
     }
-    let half = first_half(&found);
+    let mut half = Numbers::none();
+    for group in found.iter().take(found.len() / 2) {
+        half = half.with_all(*group);
+    }
     if found.len() > MOST_GROUPS {
         found.clear();
     }
     found.push(half)?;
     Ok(found)
-}
-
-/// The better of two splits.
-fn better(one: Option<Choice>, other: Choice) -> Choice {
-    match one {
-        Some(choice) if choice.rank <= other.rank => choice,
-        _ => other,
-    }
-}
-
-/// The best of a split and those of these kinds on numbers of a part.
-fn best_in(
-    tally: &mut Tally,
-    kinds: &[Classed],
-    part: KindPart,
-    possible: Numbers,
-    candidates: &[Numbers],
-    best: Option<Choice>,
-) -> Option<Choice> {
-    let mut best = best;
-    for numbers in candidates {
-        let choice = tally.choice(kinds, part, fewer(*numbers, possible));
-        best = Some(better(best, choice));
-    }
-    best
 }
 
 /// The best split of these kinds where these numbers are possible and so many splits are left; none where they have one class.
@@ -195,11 +149,20 @@ pub(crate) fn best_choice(
     possible: Possible,
     splits: u8,
 ) -> Result<Option<Choice>, AllocError> {
-    let mut best = None;
+    let mut best: Option<Choice> = None;
     for part in [KindPart::Month, KindPart::Day, KindPart::Weekday] {
-        let numbers = possible.of(part);
-        let candidates = candidates(alloc, kinds, part, numbers, splits)?;
-        best = best_in(tally, kinds, part, numbers, &candidates, best);
+        let all = possible.of(part);
+        let candidates = candidates(alloc, kinds, part, all, splits)?;
+        for numbers in candidates.as_slice() {
+            let choice = tally.choice(kinds, part, fewer(*numbers, all));
+            let is_better = match best {
+                Some(known) => choice.rank < known.rank,
+                None => true,
+            };
+            if is_better {
+                best = Some(choice);
+            }
+        }
     }
     Ok(best)
 }

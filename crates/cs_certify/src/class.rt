@@ -5,14 +5,6 @@ use cs_profile::{DayClass, Facts, GroupBound, Task};
 use cs_wait::{Backlog, BadPiece, Piece};
 use std::alloc::{AllocError, Global};
 
-/// The minutes at which a job is due.
-fn due_list(alloc: Global, job: u16, task: &Task) -> Result<DueList, AllocError> {
-    Ok(DueList {
-        job,
-        minutes: Sequence::from_slice(alloc, &task.minutes)?,
-    })
-}
-
 /// The due minutes of these jobs, without those that have none.
 fn due_lists(alloc: Global, facts: &Facts, jobs: &[u16]) -> Result<Sequence<DueList>, AllocError> {
     let mut lists = Sequence::new(alloc);
@@ -21,7 +13,8 @@ fn due_lists(alloc: Global, facts: &Facts, jobs: &[u16]) -> Result<Sequence<DueL
             continue;
         };
         if !task.minutes.is_empty() {
-            lists.push(due_list(alloc, *job, task)?)?;
+            let minutes = Sequence::from_slice(alloc, &task.minutes)?;
+            lists.push(DueList { job: *job, minutes })?;
         }
     }
     Ok(lists)
@@ -50,18 +43,6 @@ fn backlogs(alloc: Global, bounds: &[GroupBound]) -> Result<Sequence<GroupBacklo
     Ok(backlogs)
 }
 
-/// What is said of one class.
-fn class_of(alloc: Global, facts: &Facts, class: &DayClass) -> Result<Class, CertError> {
-    let jobs = match facts.due().get(usize::from(class.profile)) {
-        Some(jobs) => jobs.as_slice(),
-        None => &[],
-    };
-    Ok(Class {
-        due: due_lists(alloc, facts, jobs)?,
-        backlog: backlogs(alloc, &class.bounds)?,
-    })
-}
-
 /// What is said of each class.
 pub(crate) fn classes_of(
     alloc: Global,
@@ -70,7 +51,14 @@ pub(crate) fn classes_of(
 ) -> Result<Sequence<Class>, CertError> {
     let mut listed = Sequence::new(alloc);
     for class in classes {
-        listed.push(class_of(alloc, facts, class)?)?;
+        let jobs = match facts.due().get(usize::from(class.profile)) {
+            Some(jobs) => jobs.as_slice(),
+            None => &[],
+        };
+        listed.push(Class {
+            due: due_lists(alloc, facts, jobs)?,
+            backlog: backlogs(alloc, &class.bounds)?,
+        })?;
     }
     Ok(listed)
 }

@@ -10,8 +10,8 @@ pub(crate) struct Turn {
     ended: u32,
 }
 
-/// A minute at which a range may be cut. Of two cuts the lesser is the better one.
-#[derive(Clone, Copy, PartialEq, Eq, PartialOrd, Ord)]
+/// A minute at which a range may be cut.
+#[derive(Clone, Copy)]
 pub(crate) struct Cut {
     /// How many windows hold minutes on both sides.
     pub(crate) across: u32,
@@ -65,29 +65,24 @@ pub(crate) fn most_at_once(turns: &[Turn]) -> u32 {
     most
 }
 
-/// Whether a minute of `[lo, hi)` is in its middle third, and leaves a minute on both sides.
-fn is_middle(at: u16, lo: u16, hi: u16) -> bool {
-    let third = (hi.saturating_sub(lo) / 3).max(1);
-    at.saturating_sub(lo) >= third && hi.saturating_sub(at) >= third
-}
-
-/// The lesser of two cuts.
-fn better(one: Option<Cut>, other: Cut) -> Cut {
-    match one {
-        Some(cut) if cut < other => cut,
-        _ => other,
-    }
-}
-
-/// The cut of `[lo, hi)` in its middle third with the fewest windows across, and of those the one nearest to the middle.
+/// The cut of `[lo, hi)` in its middle third with the fewest windows across, and of those the one nearest to the middle. It leaves
+/// a minute on both sides.
 pub(crate) fn best_cut(turns: &[Turn], lo: u16, hi: u16) -> Option<Cut> {
+    let third = (hi.saturating_sub(lo) / 3).max(1);
     let mut held: u32 = 0;
-    let mut best = None;
+    let mut best: Option<Cut> = None;
     for (at, turn) in (lo..hi).zip(turns) {
         let across = held.saturating_sub(turn.ended);
-        if is_middle(at, lo, hi) {
-            let uneven = at.saturating_sub(lo).abs_diff(hi.saturating_sub(at));
-            best = Some(better(best, Cut { across, uneven, at }));
+        let before = at.saturating_sub(lo);
+        let after = hi.saturating_sub(at);
+        let uneven = before.abs_diff(after);
+        let is_better = match best {
+            Some(cut) if across == cut.across => uneven < cut.uneven,
+            Some(cut) => across < cut.across,
+            None => true,
+        };
+        if before >= third && after >= third && is_better {
+            best = Some(Cut { across, uneven, at });
         }
         held = across.saturating_add(turn.begun);
     }

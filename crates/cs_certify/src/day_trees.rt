@@ -4,20 +4,18 @@ use cs_claims::MAX_DEPTH;
 use cs_daytree::DayTree;
 use std::alloc::{AllocError, Global};
 
-/// The leaf with the class of these kinds, or with class 0 where no day has such a kind.
-fn leaf(kinds: &[Classed]) -> DayTree {
-    match kinds.first() {
-        Some(first) => DayTree::Leaf(u32::from(first.class)),
-        None => DayTree::Leaf(0),
+/// The class of the first of these kinds, or 0 where no day has such a kind; and whether all of them have it.
+fn class_of(kinds: &[Classed]) -> (u16, bool) {
+    let first = match kinds.first() {
+        Some(first) => first.class,
+        None => 0,
+    };
+    for classed in kinds {
+        if classed.class != first {
+            return (first, false);
+        }
     }
-}
-
-/// Whether all kinds have the class of the first.
-fn are_alike(kinds: &[Classed]) -> bool {
-    match kinds.first() {
-        Some(first) => kinds.iter().all(|classed| classed.class == first.class),
-        None => true,
-    }
+    (first, true)
 }
 
 /// The kinds on one side of a split, in order.
@@ -36,21 +34,6 @@ fn on_side(
     Ok(kept)
 }
 
-/// The split on these numbers, with its two halves.
-fn split(
-    alloc: Global,
-    choice: Choice,
-    inside: DayTree,
-    outside: DayTree,
-) -> Result<DayTree, AllocError> {
-    Ok(DayTree::Split {
-        part: choice.part,
-        values: choice.numbers.rising(alloc)?,
-        inside: Box::new(alloc, inside)?,
-        outside: Box::new(alloc, outside)?,
-    })
-}
-
 /// A tree of so many splits above one another at most that gives these kinds their classes, where these numbers are possible.
 fn tree_of(
     alloc: Global,
@@ -59,11 +42,13 @@ fn tree_of(
     possible: Possible,
     splits: u8,
 ) -> Result<DayTree, AllocError> {
-    if splits == 0 || are_alike(kinds) {
-        return Ok(leaf(kinds));
+    let (class, is_alone) = class_of(kinds);
+    let leaf = DayTree::Leaf(u32::from(class));
+    if splits == 0 || is_alone {
+        return Ok(leaf);
     }
     let Some(choice) = best_choice(alloc, tally, kinds, possible, splits)? else {
-        return Ok(leaf(kinds));
+        return Ok(leaf);
     };
     let numbers = possible.of(choice.part);
     let within = possible.only(choice.part, choice.numbers);
@@ -72,7 +57,12 @@ fn tree_of(
     let without = possible.only(choice.part, numbers.without(choice.numbers));
     let outside = on_side(alloc, kinds, choice, false)?;
     let outside = tree_of(alloc, tally, &outside, without, splits - 1)?;
-    split(alloc, choice, inside, outside)
+    Ok(DayTree::Split {
+        part: choice.part,
+        values: choice.numbers.rising(alloc)?,
+        inside: Box::new(alloc, inside)?,
+        outside: Box::new(alloc, outside)?,
+    })
 }
 
 /// A day tree that gives each kind of day its class. The classes are given by the kinds' numbers, in the order of

@@ -1,4 +1,4 @@
-use crate::gains::{MINUTES_OF_DAY, waits_for};
+use crate::gains::{MINUTES_OF_DAY, is_waited_for};
 use crate::latest::latest_starts;
 use crate::queue::{Queue, QueuedRun};
 use cs_claims::MAX_GROUPS;
@@ -21,17 +21,6 @@ pub struct ExactWaits<'a> {
     queues: Vec<Queue>,
 }
 
-/// Who waits for the locks of all groups.
-fn queues(alloc: Global, facts: &Facts, calendar: &Calendar) -> Result<Vec<Queue>, AllocError> {
-    let mut queues = Vec::new(alloc);
-    for group in 0..MAX_GROUPS {
-        if facts.tasks().iter().any(|task| waits_for(task, group)) {
-            queues.push(Queue::of(alloc, facts, calendar, group)?)?;
-        }
-    }
-    Ok(queues)
-}
-
 /// The profiles of up to four successive days, with one that is no day's in the place of those that lack.
 type Profiles = [u16; 4];
 
@@ -50,27 +39,7 @@ fn profiles_from(profiles: &[u16], first: usize, length: usize) -> Profiles {
 }
 
 /// The places of first days whose profiles are the same, of which no one's locks are all free by when another's are.
-#[derive(Drop)]
-struct Firsts {
-    places: Vec<usize>,
-}
-
-impl Firsts {
-    /// Takes one more of them.
-    fn add(&mut self, waits: &ExactWaits<'_>, first: usize) -> Result<(), AllocError> {
-        if self
-            .places
-            .as_slice()
-            .iter()
-            .any(|other| waits.is_within(first, *other))
-        {
-            return Ok(());
-        }
-        self.places.retain(|other| !waits.is_within(*other, first));
-        self.places.push(first)?;
-        Ok(())
-    }
-}
+type Firsts = Vec<usize>;
 
 /// The window of a run on the last of so many days, if it waits and is on it.
 fn window_of(facts: &Facts, run: &QueuedRun, length: u8) -> Option<Window> {
@@ -90,45 +59,6 @@ fn window_of(facts: &Facts, run: &QueuedRun, length: u8) -> Option<Window> {
     }
 }
 
-/// Adds the windows of the runs that wait and are on the last of so many days.
-fn add_windows(
-    windows: &mut Vec<Window>,
-    facts: &Facts,
-    runs: &[QueuedRun],
-    length: u8,
-) -> Result<(), AllocError> {
-    for run in runs {
-        if let Some(window) = window_of(facts, run, length) {
-            windows.push(window)?;
-        }
-    }
-    Ok(())
-}
-
-/// What names a window of a stretch: its job, the days back and the minute from which it is.
-type Name = (u16, u8, u16);
-
-/// The windows by their names.
-fn by_name(alloc: Global, windows: &[Window]) -> Result<IndexMap<Name, Window>, AllocError> {
-    let mut by_name = IndexMap::new(alloc);
-    for window in windows {
-        by_name.insert((window.job, window.day_back, window.from), *window)?;
-    }
-    Ok(by_name)
-}
-
-/// The places of the first days that were kept for all profiles, as the civil days that come so many days after them.
-fn days_after(alloc: Global, firsts: &[Firsts], after: u64) -> Result<Vec<u64>, AllocError> {
-    let mut days = Vec::new(alloc);
-    for first in firsts {
-        for place in first.places.as_slice() {
-            days.push(after.saturating_add(*place as u64))?;
-        }
-    }
-    days.sort()?;
-    Ok(days)
-}
-
 impl<'a> ExactWaits<'a> {
     /// The waits of a plan, over a calendar of it. The only error is want of memory.
     pub fn of(
@@ -136,28 +66,39 @@ impl<'a> ExactWaits<'a> {
         facts: &'a Facts,
         calendar: &'a Calendar,
     ) -> Result<ExactWaits<'a>, AllocError> {
+        let mut queues = Vec::new(alloc);
+        for group in 0..MAX_GROUPS {
+            if is_waited_for(facts, group) {
+                queues.push(Queue::of(alloc, facts, calendar, group)?)?;
+            }
+        }
         Ok(ExactWaits {
             facts,
             calendar,
-            queues: queues(alloc, facts, calendar)?,
+            queues,
         })
     }
 
     /// Whether each lock is free on one day by the minute from which on it is free on the other.
     fn is_within(&self, one: usize, other: usize) -> bool {
-        self.queues
-            .as_slice()
-            .iter()
-            .all(|queue| queue.free_on(one) <= queue.free_on(other))
+        for queue in self.queues.as_slice() {
+            if queue.free_on(one) > queue.free_on(other) {
+                return false;
+            }
+        }
+        true
     }
 
-    /// The place of the first of so many days, of which this is the last.
-    fn first_place(&self, last_day: u64, length: u8) -> Option<usize> {
-        let place = last_day
-            .checked_add(1)?
-            .checked_sub(u64::from(length))?
-            .checked_sub(self.calendar.first_day())?;
-        Some(place as usize)
+    /// Adds one more day to those whose profiles are the same.
+    fn add(&self, firsts: &mut Firsts, first: usize) -> Result<(), AllocError> {
+        for other in firsts.as_slice() {
+            if self.is_within(first, *other) {
+                return Ok(());
+            }
+        }
+        firsts.retain(|other| !self.is_within(*other, first));
+        firsts.push(first)?;
+        Ok(())
     }
 
     /// The first days of so many, sorted by the profiles of all of them.
@@ -168,12 +109,10 @@ impl<'a> ExactWaits<'a> {
         for first in DAYS_BEFORE..profiles.len().saturating_add(1).saturating_sub(length) {
             let (number, is_new) = seen.insert_full(profiles_from(profiles, first, length))?;
             if is_new {
-                sorted.push(Firsts {
-                    places: Vec::new(alloc),
-                })?;
+                sorted.push(Vec::new(alloc))?;
             }
             if let Some(firsts) = sorted.get_mut(number) {
-                firsts.add(self, first)?;
+                self.add(firsts, first)?;
             }
         }
         Ok(sorted)
@@ -185,7 +124,14 @@ impl<'a> ExactWaits<'a> {
     pub fn last_days(&self, alloc: Global, length: u8) -> Result<Vec<u64>, AllocError> {
         let firsts = self.firsts(alloc, usize::from(length))?;
         let after = self.calendar.day_at(usize::from(length)).saturating_sub(1);
-        days_after(alloc, firsts.as_slice(), after)
+        let mut days = Vec::new(alloc);
+        for like in firsts.as_slice() {
+            for place in like.as_slice() {
+                days.push(after.saturating_add(*place as u64))?;
+            }
+        }
+        days.sort()?;
+        Ok(days)
     }
 
     /// The windows of jobs that wait, on the last of so many days, up to four, that end with this one: of each run that is due on
@@ -197,25 +143,21 @@ impl<'a> ExactWaits<'a> {
         length: u8,
     ) -> Result<Vec<Window>, AllocError> {
         let mut windows = Vec::new(alloc);
-        let Some(first) = self.first_place(last_day, length) else {
+        let before = self.calendar.first_day().saturating_add(u64::from(length));
+        let Some(first) = last_day.saturating_add(1).checked_sub(before) else {
             return Ok(windows);
         };
+        let first = first as usize;
         let profiles = profiles_from(self.calendar.profiles(), first, usize::from(length));
         for queue in self.queues.as_slice() {
             let runs = latest_starts(alloc, queue, profiles.as_slice(), queue.free_on(first))?;
-            add_windows(&mut windows, self.facts, runs.as_slice(), length)?;
+            for run in runs.as_slice() {
+                if let Some(window) = window_of(self.facts, run, length) {
+                    windows.push(window)?;
+                }
+            }
         }
         Ok(windows)
-    }
-
-    /// A window of the stretch as it really is.
-    fn exact(&self, own: &IndexMap<Name, Window>, window: &Window) -> Option<Window> {
-        match self.facts.tasks().get(usize::from(window.job)) {
-            Some(task) if task.is_cron && task.mode.waits() => own
-                .get(&(window.job, window.day_back, window.from))
-                .copied(),
-            _ => Some(*window),
-        }
     }
 
     /// The windows of the stretch of so many days that ends with this day, each of a job that waits cut to what it really can be,
@@ -227,11 +169,19 @@ impl<'a> ExactWaits<'a> {
         length: u8,
         windows: &[Window],
     ) -> Result<Vec<Window>, AllocError> {
-        let waiting = self.windows(alloc, last_day, length)?;
-        let own = by_name(alloc, waiting.as_slice())?;
+        let mut own = IndexMap::new(alloc);
+        for window in self.windows(alloc, last_day, length)?.as_slice() {
+            own.insert((window.job, window.day_back, window.from), *window)?;
+        }
         let mut exact = Vec::new(alloc);
         for window in windows {
-            if let Some(window) = self.exact(&own, window) {
+            let really = match self.facts.tasks().get(usize::from(window.job)) {
+                Some(task) if task.is_cron && task.mode.waits() => own
+                    .get(&(window.job, window.day_back, window.from))
+                    .copied(),
+                _ => Some(*window),
+            };
+            if let Some(window) = really {
                 exact.push(window)?;
             }
         }

@@ -50,13 +50,14 @@ pub(crate) fn waits_for(task: &Task, group: u8) -> bool {
     task.is_cron && task.mode.waits() && task.group == Some(group)
 }
 
-/// The runs of a job arrive at each minute at which it is due.
-fn add_job(work: &mut [u32], task: &Task) {
-    for minute in task.minutes.as_slice() {
-        if let Some(work) = work.get_mut(usize::from(*minute)) {
-            *work = work.saturating_add(u32::from(task.max));
+/// Whether runs of any job wait for the lock of the group.
+pub(crate) fn is_waited_for(facts: &Facts, group: u8) -> bool {
+    for task in facts.tasks() {
+        if waits_for(task, group) {
+            return true;
         }
     }
+    false
 }
 
 /// What arrives at each minute of a day on which these jobs are due.
@@ -66,29 +67,19 @@ fn work_by_minute(
     due: &[u16],
     group: u8,
 ) -> Result<Vec<u32>, AllocError> {
-    let mut work = Vec::from_elem(alloc, 0, MINUTES_OF_DAY as usize)?;
+    let mut work: Vec<u32> = Vec::from_elem(alloc, 0, MINUTES_OF_DAY as usize)?;
     for job in due {
         if let Some(task) = tasks.get(usize::from(*job)) {
             if takes_lock_of(task, group) {
-                add_job(work.as_mut_slice(), task);
+                for minute in task.minutes.as_slice() {
+                    if let Some(work) = work.get_mut(usize::from(*minute)) {
+                        *work = work.saturating_add(u32::from(task.max));
+                    }
+                }
             }
         }
     }
     Ok(work)
-}
-
-/// The minutes at which something arrives.
-fn arrivals_among(alloc: Global, work: &[u32]) -> Result<Vec<Arrival>, AllocError> {
-    let mut arrivals = Vec::new(alloc);
-    for (minute, work) in (0..MINUTES_OF_DAY).zip(work) {
-        if *work > 0 {
-            arrivals.push(Arrival {
-                minute,
-                work: *work,
-            })?;
-        }
-    }
-    Ok(arrivals)
 }
 
 /// What arrives on a day on which these jobs are due.
@@ -98,13 +89,20 @@ fn arrivals_of(
     due: &[u16],
     group: u8,
 ) -> Result<Arrivals, AllocError> {
-    let work = work_by_minute(alloc, tasks, due, group)?;
-    let list = arrivals_among(alloc, work.as_slice())?;
+    let by_minute = work_by_minute(alloc, tasks, due, group)?;
+    let mut list = Vec::new(alloc);
     let mut sum: u32 = 0;
     let mut free: u32 = 0;
-    for arrival in list.as_slice() {
-        sum = sum.saturating_add(arrival.work);
-        free = arrival.free_after(free);
+    for (minute, work) in (0..MINUTES_OF_DAY).zip(by_minute.as_slice()) {
+        if *work > 0 {
+            let arrival = Arrival {
+                minute,
+                work: *work,
+            };
+            sum = sum.saturating_add(arrival.work);
+            free = arrival.free_after(free);
+            list.push(arrival)?;
+        }
     }
     Ok(Arrivals {
         list,

@@ -28,22 +28,16 @@ fn place_in(kind: DayKind, part: KindPart) -> usize {
 }
 
 impl Group {
-    /// A group of no number yet.
-    fn new(alloc: Global) -> Result<Group, AllocError> {
-        Ok(Group {
-            numbers: Numbers::none(),
-            classes: Vec::from_elem(alloc, None, PLACES)?,
-        })
-    }
-
     /// Whether the class of each of these kinds is that of the group's, where it has one.
     fn agrees(&self, part: KindPart, kinds: &[Classed]) -> bool {
-        kinds.iter().all(|classed| {
-            match self.classes.get(place_in(classed.kind, part)) {
-                Some(Some(class)) => *class == classed.class,
-                _ => true,
+        for classed in kinds {
+            if let Some(Some(class)) = self.classes.get(place_in(classed.kind, part)) {
+                if *class != classed.class {
+                    return false;
+                }
             }
-        })
+        }
+        true
     }
 
     /// Takes a number in, which has these kinds.
@@ -55,22 +49,6 @@ impl Group {
             }
         }
     }
-}
-
-/// The kinds that have this number there, in order.
-fn having(
-    alloc: Global,
-    kinds: &[Classed],
-    part: KindPart,
-    number: u8,
-) -> Result<Vec<Classed>, AllocError> {
-    let mut having = Vec::new(alloc);
-    for classed in kinds {
-        if number_in(classed.kind, part) == number {
-            having.push(*classed)?;
-        }
-    }
-    Ok(having)
 }
 
 /// Takes a number, which has these kinds, into the first group that agrees, or into one of its own.
@@ -87,7 +65,10 @@ fn take_in(
             return Ok(());
         }
     }
-    let mut group = Group::new(alloc)?;
+    let mut group = Group {
+        numbers: Numbers::none(),
+        classes: Vec::from_elem(alloc, None, PLACES)?,
+    };
     group.take(number, part, kinds);
     groups.push(group)?;
     Ok(())
@@ -104,9 +85,18 @@ pub(crate) fn groups_of(
     let mut groups: Vec<Group> = Vec::new(alloc);
     for number in 0..NUMBERS {
         if possible.has(number) {
-            let having = having(alloc, kinds, part, number)?;
+            let mut having = Vec::new(alloc);
+            for classed in kinds {
+                if number_in(classed.kind, part) == number {
+                    having.push(*classed)?;
+                }
+            }
             take_in(alloc, &mut groups, number, part, &having)?;
         }
     }
-    groups.iter().map(|group| group.numbers).collect(alloc)
+    let mut numbers = Vec::with_capacity(alloc, groups.len())?;
+    for group in groups.as_slice() {
+        numbers.push(group.numbers)?;
+    }
+    Ok(numbers)
 }

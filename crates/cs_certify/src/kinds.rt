@@ -35,7 +35,7 @@ pub(crate) fn number_in(kind: DayKind, part: KindPart) -> u8 {
 }
 
 /// Numbers of one part, below 32: each is a bit.
-#[derive(Clone, Copy, PartialEq, Eq)]
+#[derive(Clone, Copy)]
 pub(crate) struct Numbers {
     bits: u32,
 }

@@ -3,32 +3,6 @@ use crate::gains::MINUTES_OF_DAY;
 use crate::queue::{Queue, QueuedRun, line_up};
 use std::alloc::{AllocError, Global};
 
-/// Adds the runs on days of a profile, the first minute of which is so many after that of the first day.
-fn add_day(
-    runs: &mut Vec<QueuedRun>,
-    queue: &Queue,
-    profile: u16,
-    first: u32,
-) -> Result<(), AllocError> {
-    for run in queue.runs_of(profile) {
-        let mut run = *run;
-        run.due = run.due.saturating_add(first);
-        runs.push(run)?;
-    }
-    Ok(())
-}
-
-/// The runs on successive days of these profiles.
-fn runs_over(alloc: Global, queue: &Queue, profiles: &[u16]) -> Result<Vec<QueuedRun>, AllocError> {
-    let mut runs = Vec::new(alloc);
-    let mut first: u32 = 0;
-    for profile in profiles {
-        add_day(&mut runs, queue, *profile, first)?;
-        first = first.saturating_add(MINUTES_OF_DAY);
-    }
-    Ok(runs)
-}
-
 /// What comes behind a run in a queue.
 #[derive(Clone, Copy)]
 struct Behind {
@@ -88,7 +62,16 @@ pub(crate) fn latest_starts(
     profiles: &[u16],
     free: u32,
 ) -> Result<Vec<QueuedRun>, AllocError> {
-    let mut runs = runs_over(alloc, queue, profiles)?;
+    let mut runs = Vec::new(alloc);
+    let mut first: u32 = 0;
+    for profile in profiles {
+        for run in queue.runs_of(*profile) {
+            let mut run = *run;
+            run.due = run.due.saturating_add(first);
+            runs.push(run)?;
+        }
+        first = first.saturating_add(MINUTES_OF_DAY);
+    }
     let _ = line_up(runs.as_mut_slice(), free);
     for work in queue.works.as_slice() {
         put_last(runs.as_mut_slice(), *work);

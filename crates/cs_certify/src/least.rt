@@ -8,7 +8,7 @@ use cs_windows::JobReach;
 use std::alloc::{AllocError, Global};
 
 /// Bounds on what waits for the locks of groups, and the reaches that they give the jobs that wait.
-#[derive(Debug, Drop)]
+#[derive(Drop)]
 pub struct Bounds {
     /// The reach of each job that waits, by number.
     pub reaches: Vec<JobReach>,
@@ -29,10 +29,14 @@ fn longest_of(locks: &[Lock], job: usize) -> Longest {
 
 /// Whether a job of the crontab is due on any day.
 fn is_ever_due(facts: &Facts, job: usize) -> bool {
-    facts.due().iter().any(|due| due
-        .as_slice()
-        .iter()
-        .any(|other| usize::from(*other) == job))
+    for due in facts.due() {
+        for other in due.as_slice() {
+            if usize::from(*other) == job {
+                return true;
+            }
+        }
+    }
+    false
 }
 
 /// When the last window of a job ends, counted from the start of the day on which it begins.
@@ -56,34 +60,28 @@ fn end_of(plan: &Plan, facts: &Facts, locks: &[Lock], job: usize, task: &Task) -
     lasts.saturating_add(u32::from(*minute))
 }
 
-/// When the last window of all jobs ends, counted in the same way.
-fn latest_end(plan: &Plan, facts: &Facts, locks: &[Lock]) -> u32 {
-    let mut latest = 0;
-    for (job, task) in facts.tasks().iter().enumerate() {
-        latest = end_of(plan, facts, locks, job, task).max(latest);
-    }
-    latest
-}
-
-/// The reach of a job, where the last window of all ends at this minute. By so many days, two at least, are stretches looked
-/// through, but not for a minute past the last of them: what is free only then needs a day more, and so a minute more.
-fn reach_by(longest: Longest, latest: u32) -> u32 {
-    let is_past = latest > MINUTES_OF_DAY && latest % MINUTES_OF_DAY == 0 && longest.end == latest;
-    longest.reach.max(1).saturating_add(u32::from(is_past))
-}
-
 /// The reach of each job that waits. `None` where one is over three days.
+///
+/// By the minute at which the last window of all jobs ends, counted from the start of the day on which it begins, stretches are
+/// looked through, of two days at least, but not for a minute past the last of them: what is free only then needs a day more,
+/// and so a minute more.
 fn reaches(
     alloc: Global,
     plan: &Plan,
     facts: &Facts,
     locks: &[Lock],
 ) -> Result<Option<Vec<JobReach>>, AllocError> {
-    let latest = latest_end(plan, facts, locks);
+    let mut latest = 0;
+    for (job, task) in facts.tasks().iter().enumerate() {
+        latest = end_of(plan, facts, locks, job, task).max(latest);
+    }
+    let is_midnight = latest > MINUTES_OF_DAY && latest % MINUTES_OF_DAY == 0;
     let mut reaches = Vec::new(alloc);
     for (job, task) in facts.tasks().iter().enumerate() {
         if task.is_cron && task.mode.waits() {
-            let reach = reach_by(longest_of(locks, job), latest);
+            let longest = longest_of(locks, job);
+            let is_past = is_midnight && longest.end == latest;
+            let reach = longest.reach.max(1).saturating_add(u32::from(is_past));
             if reach > MOST_REACH {
                 return Ok(None);
             }

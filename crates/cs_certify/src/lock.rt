@@ -1,6 +1,6 @@
 //! What is known of each lock that jobs wait for.
 use crate::carry::least_carries;
-use crate::gains::{Arrivals, arrivals_by_profile, waits_for};
+use crate::gains::{Arrivals, arrivals_by_profile, is_waited_for};
 use crate::reaches::{Longest, longest_waits};
 use cs_claims::MAX_GROUPS;
 use cs_profile::Facts;
@@ -54,12 +54,10 @@ fn lock_of(
         return Ok(None);
     };
     let longest = longest_waits(alloc, facts, group, arrivals.as_slice(), least.as_slice())?;
-    if longest
-        .as_slice()
-        .iter()
-        .any(|wait| wait.reach > MOST_REACH)
-    {
-        return Ok(None);
+    for wait in longest.as_slice() {
+        if wait.reach > MOST_REACH {
+            return Ok(None);
+        }
     }
     let coarse = coarse_carries(alloc, facts, group, arrivals.as_slice(), longest.as_slice())?;
     Ok(Some(Lock {
@@ -70,22 +68,16 @@ fn lock_of(
     }))
 }
 
-/// The numbers of all kinds of days.
-fn kind_numbers(alloc: Global, facts: &Facts) -> Result<Vec<u16>, AllocError> {
-    let mut numbers = Vec::new(alloc);
-    for kind in 0..facts.kinds().len() {
-        numbers.push(u16::try_from(kind).unwrap_or(u16::MAX))?;
-    }
-    Ok(numbers)
-}
-
 /// The locks that jobs wait for, by group. `None` where one of them has no bound, or none by which runs wait for at most three
 /// days.
 pub(crate) fn locks(alloc: Global, facts: &Facts) -> Result<Option<Vec<Lock>>, AllocError> {
-    let kinds = kind_numbers(alloc, facts)?;
+    let mut kinds = Vec::new(alloc);
+    for kind in 0..facts.kinds().len() {
+        kinds.push(u16::try_from(kind).unwrap_or(u16::MAX))?;
+    }
     let mut locks = Vec::new(alloc);
     for group in 0..MAX_GROUPS {
-        if facts.tasks().iter().any(|task| waits_for(task, group)) {
+        if is_waited_for(facts, group) {
             match lock_of(alloc, facts, group, kinds.as_slice())? {
                 Some(lock) => locks.push(lock)?,
                 None => return Ok(None),

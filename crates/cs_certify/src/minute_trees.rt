@@ -13,20 +13,15 @@ const ONE_ACROSS_OF: usize = 8;
 /// Each side of a cut has two thirds of the minutes at most, so after so many of them a range is one minute of the day.
 const MOST_CUTS: u8 = 18;
 
-/// The name of a window. A job that no plan has stays one: the greatest `u16`.
-fn entry_of(window: &Window) -> Entry {
-    Entry {
-        job: window.job,
-        day_back: window.day_back,
-        from: window.from,
-    }
-}
-
 /// The leaf that lists these windows.
 fn leaf(alloc: Global, windows: &[Window]) -> Result<MinuteTree, AllocError> {
     let mut entries = Vec::with_capacity(alloc, windows.len())?;
     for window in windows {
-        entries.push(entry_of(window))?;
+        entries.push(Entry {
+            job: window.job,
+            day_back: window.day_back,
+            from: window.from,
+        })?;
     }
     Ok(MinuteTree::Leaf(Sequence::from_vec(entries)))
 }
@@ -92,12 +87,6 @@ fn tree_over(
     })
 }
 
-/// Whether more windows hold one minute than a leaf may list.
-fn are_too_many(alloc: Global, windows: &[Window]) -> Result<bool, AllocError> {
-    let turns = turns(alloc, windows, 0, MINUTES_OF_DAY)?;
-    Ok(most_at_once(&turns) as usize > MAX_ENTRIES)
-}
-
 /// A tree over the minutes of a day each of whose leaves lists every window that touches its range, in the order given.
 ///
 /// Windows that one leaf may list stand in a leaf of the whole day, which is shortest as text and is gone through once by
@@ -105,7 +94,11 @@ fn are_too_many(alloc: Global, windows: &[Window]) -> Result<bool, AllocError> {
 /// 4,096 windows hold one minute no certificate can list them: all are then in one leaf. The only error is want of memory.
 pub fn minute_tree(alloc: Global, windows: &[Window]) -> Result<MinuteTree, AllocError> {
     let held = touching(alloc, windows, 0, MINUTES_OF_DAY)?;
-    if held.len() <= MAX_ENTRIES || are_too_many(alloc, &held)? {
+    if held.len() <= MAX_ENTRIES {
+        return leaf(alloc, &held);
+    }
+    let turns = turns(alloc, &held, 0, MINUTES_OF_DAY)?;
+    if most_at_once(&turns) as usize > MAX_ENTRIES {
         return leaf(alloc, &held);
     }
     tree_over(alloc, &held, 0, MINUTES_OF_DAY, MOST_CUTS)

@@ -5,33 +5,6 @@ use crate::pieces::pieces;
 use cs_profile::{Classing, DayClass, Facts, GroupBound};
 use std::alloc::{AllocError, Global};
 
-/// The class of each kind, by the kind's number.
-fn class_of(alloc: Global, facts: &Facts, locks: &[Lock]) -> Result<Vec<u16>, AllocError> {
-    let mut classes = Vec::from_slice(alloc, facts.profiles())?;
-    for lock in locks {
-        classes = told_apart(alloc, classes.as_slice(), lock.carries.as_slice())?;
-    }
-    Ok(classes)
-}
-
-/// The bound of a group on days of the kind.
-fn bound_on(
-    alloc: Global,
-    lock: &Lock,
-    profile: u16,
-    kind: usize,
-) -> Result<GroupBound, AllocError> {
-    let carry = minutes_at(lock.carries.as_slice(), kind);
-    let arrivals = match lock.arrivals.get(usize::from(profile)) {
-        Some(arrivals) => arrivals.list.as_slice(),
-        None => &[],
-    };
-    Ok(GroupBound {
-        group: lock.group,
-        pieces: pieces(alloc, arrivals, carry)?,
-    })
-}
-
 /// The bounds of all groups for which something waits or runs on days of the kind.
 fn bounds_on(
     alloc: Global,
@@ -41,9 +14,17 @@ fn bounds_on(
 ) -> Result<Vec<GroupBound>, AllocError> {
     let mut bounds = Vec::new(alloc);
     for lock in locks {
-        let bound = bound_on(alloc, lock, profile, kind)?;
-        if !bound.pieces.is_empty() {
-            bounds.push(bound)?;
+        let carry = minutes_at(lock.carries.as_slice(), kind);
+        let arrivals = match lock.arrivals.get(usize::from(profile)) {
+            Some(arrivals) => arrivals.list.as_slice(),
+            None => &[],
+        };
+        let pieces = pieces(alloc, arrivals, carry)?;
+        if !pieces.is_empty() {
+            bounds.push(GroupBound {
+                group: lock.group,
+                pieces,
+            })?;
         }
     }
     Ok(bounds)
@@ -55,7 +36,10 @@ pub(crate) fn classing(
     facts: &Facts,
     locks: &[Lock],
 ) -> Result<Classing, AllocError> {
-    let class_of = class_of(alloc, facts, locks)?;
+    let mut class_of = Vec::from_slice(alloc, facts.profiles())?;
+    for lock in locks {
+        class_of = told_apart(alloc, class_of.as_slice(), lock.carries.as_slice())?;
+    }
     let mut classes = Vec::new(alloc);
     for kind in first_places(alloc, class_of.as_slice())?.as_slice() {
         let profile = number_at(facts.profiles(), *kind);

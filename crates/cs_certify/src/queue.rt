@@ -54,14 +54,6 @@ pub(crate) struct QueueDay {
     free: u32,
 }
 
-impl QueueDay {
-    /// From when on the lock is free, in minutes of the next day, if it is from this minute of the day on.
-    fn next(&self, free: u32) -> u32 {
-        let ahead = free.saturating_add(self.work).max(self.free);
-        ahead.saturating_sub(MINUTES_OF_DAY).min(MOST_AHEAD)
-    }
-}
-
 /// Who takes the lock of a group for which jobs wait.
 #[derive(Drop)]
 pub(crate) struct Queue {
@@ -81,22 +73,6 @@ pub(crate) fn work_of(task: &Task) -> u32 {
     u32::from(task.max).saturating_sub(1)
 }
 
-/// The runs of a job on a day on which it is due.
-fn add_runs(runs: &mut Vec<QueuedRun>, job: u16, task: &Task) -> Result<(), AllocError> {
-    for minute in task.minutes.as_slice() {
-        let due = u32::from(*minute);
-        runs.push(QueuedRun {
-            job,
-            due,
-            work: work_of(task),
-            is_tried: task.is_try(),
-            free: 0,
-            start: due,
-        })?;
-    }
-    Ok(())
-}
-
 /// The runs on a day on which these jobs are due that take the lock of the group, by the minute at which they are due, those of
 /// mode try before others.
 fn runs_on(
@@ -109,7 +85,17 @@ fn runs_on(
     for job in due {
         if let Some(task) = tasks.get(usize::from(*job)) {
             if takes_lock_of(task, group) {
-                add_runs(&mut runs, *job, task)?;
+                for minute in task.minutes.as_slice() {
+                    let due = u32::from(*minute);
+                    runs.push(QueuedRun {
+                        job: *job,
+                        due,
+                        work: work_of(task),
+                        is_tried: task.is_try(),
+                        free: 0,
+                        start: due,
+                    })?;
+                }
             }
         }
     }
@@ -128,28 +114,19 @@ pub(crate) fn line_up(runs: &mut [QueuedRun], free: u32) -> u32 {
     free
 }
 
-/// For how long runs keep the lock together, where those of mode try don't get it.
-fn work_together(runs: &[QueuedRun]) -> u32 {
-    let mut work: u32 = 0;
-    for run in runs {
-        if !run.is_tried {
-            work = work.saturating_add(run.work);
-        }
-    }
-    work
-}
-
 /// Who takes the lock of the group on the days of each profile.
 fn queue_days(alloc: Global, facts: &Facts, group: u8) -> Result<Vec<QueueDay>, AllocError> {
     let mut days = Vec::new(alloc);
     for due in facts.due() {
         let mut runs = runs_on(alloc, facts.tasks(), due.as_slice(), group)?;
         let free = line_up(runs.as_mut_slice(), 0);
-        days.push(QueueDay {
-            work: work_together(runs.as_slice()),
-            free,
-            runs,
-        })?;
+        let mut work: u32 = 0;
+        for run in runs.as_slice() {
+            if !run.is_tried {
+                work = work.saturating_add(run.work);
+            }
+        }
+        days.push(QueueDay { runs, work, free })?;
     }
     Ok(days)
 }
@@ -157,11 +134,12 @@ fn queue_days(alloc: Global, facts: &Facts, group: u8) -> Result<Vec<QueueDay>, 
 /// From when on the lock is free on each day of the calendar.
 fn free_by_day(alloc: Global, days: &[QueueDay], profiles: &[u16]) -> Result<Vec<u32>, AllocError> {
     let mut by_day = Vec::new(alloc);
-    let mut free = 0;
+    let mut free: u32 = 0;
     for profile in profiles {
         by_day.push(free)?;
         if let Some(day) = days.get(usize::from(*profile)) {
-            free = day.next(free);
+            let ahead = free.saturating_add(day.work).max(day.free);
+            free = ahead.saturating_sub(MINUTES_OF_DAY).min(MOST_AHEAD);
         }
     }
     Ok(by_day)

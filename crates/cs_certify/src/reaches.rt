@@ -67,18 +67,6 @@ fn like_days(
     Ok(days)
 }
 
-/// The first minute of such a day at which the lock is free; four days where it is at none.
-fn first_free(days: &[LikeDays], number: u16) -> u32 {
-    let Some(day) = days.get(usize::from(number)) else {
-        return 0;
-    };
-    match day.busy.as_slice().first() {
-        Some(busy) if busy.until < MINUTES_OF_DAY => busy.until,
-        Some(_) => LATEST,
-        None => 0,
-    }
-}
-
 /// The first free minute of days of each kind, by the kind's number; four days where it isn't known.
 fn first_free_by_kind(
     alloc: Global,
@@ -87,7 +75,15 @@ fn first_free_by_kind(
 ) -> Result<Vec<u32>, AllocError> {
     let mut free = Vec::new(alloc);
     for number in numbers {
-        free.push(first_free(days, *number))?;
+        let first = match days.get(usize::from(*number)) {
+            Some(day) => day.busy.as_slice().first(),
+            None => None,
+        };
+        free.push(match first {
+            Some(busy) if busy.until < MINUTES_OF_DAY => busy.until,
+            Some(_) => LATEST,
+            None => 0,
+        })?;
     }
     Ok(free)
 }
@@ -102,29 +98,8 @@ fn next_free(free: &[u32], next: &[u16]) -> u32 {
     latest.saturating_add(MINUTES_OF_DAY).min(LATEST)
 }
 
-/// Where the lock isn't free on days of a kind, looks at what is known of the days after them.
-fn look_on(free: &mut [u32], facts: &Facts) {
-    for (kind, next) in facts.successors().iter().enumerate() {
-        let later = next_free(free, next.as_slice());
-        if let Some(free) = free.get_mut(kind) {
-            if *free >= MINUTES_OF_DAY {
-                *free = later;
-            }
-        }
-    }
-}
-
-/// Notes what the days after each day bring.
-fn look_after(days: &mut [LikeDays], facts: &Facts, numbers: &[u16], free: &[u32]) {
-    for (number, next) in numbers.iter().zip(facts.successors()) {
-        let later = next_free(free, next.as_slice());
-        if let Some(day) = days.get_mut(usize::from(*number)) {
-            day.free_after = day.free_after.max(later);
-        }
-    }
-}
-
-/// The sorts of days that the lock sees, with what the days after them bring.
+/// The sorts of days that the lock sees, with what the days after them bring: where the lock isn't free on days of a kind, what
+/// is known of the days after them is looked at.
 fn days_of(
     alloc: Global,
     facts: &Facts,
@@ -135,14 +110,21 @@ fn days_of(
     let mut days = like_days(alloc, facts, arrivals, carries, numbers.as_slice())?;
     let mut free = first_free_by_kind(alloc, days.as_slice(), numbers.as_slice())?;
     for _ in 0..MOST_DAYS {
-        look_on(free.as_mut_slice(), facts);
+        for (kind, next) in facts.successors().iter().enumerate() {
+            let later = next_free(free.as_slice(), next.as_slice());
+            if let Some(free) = free.get_mut(kind) {
+                if *free >= MINUTES_OF_DAY {
+                    *free = later;
+                }
+            }
+        }
     }
-    look_after(
-        days.as_mut_slice(),
-        facts,
-        numbers.as_slice(),
-        free.as_slice(),
-    );
+    for (number, next) in numbers.iter().zip(facts.successors()) {
+        let later = next_free(free.as_slice(), next.as_slice());
+        if let Some(day) = days.get_mut(usize::from(*number)) {
+            day.free_after = day.free_after.max(later);
+        }
+    }
     Ok(days)
 }
 
@@ -167,16 +149,7 @@ fn longest_in(busy: &BusyTime, minutes: &[u16], free_after: u32) -> Longest {
     }
 }
 
-/// The same on the whole day.
-fn longest_on(day: &LikeDays, task: &Task) -> Longest {
-    let mut longest = Longest::NONE;
-    for busy in day.busy.as_slice() {
-        longest = longest.or(longest_in(busy, task.minutes.as_slice(), day.free_after));
-    }
-    longest
-}
-
-/// The same of each job that is due on such a day and waits for the lock of the group.
+/// The same of each job that is due on such a day and waits for the lock of the group, in all busy times.
 fn add_day(longest: &mut [Longest], facts: &Facts, group: u8, day: &LikeDays) {
     let Some(due) = facts.due().get(usize::from(day.profile)) else {
         return;
@@ -185,7 +158,10 @@ fn add_day(longest: &mut [Longest], facts: &Facts, group: u8, day: &LikeDays) {
         let place = usize::from(*job);
         if let (Some(task), Some(longest)) = (facts.tasks().get(place), longest.get_mut(place)) {
             if waits_for(task, group) {
-                *longest = longest.or(longest_on(day, task));
+                for busy in day.busy.as_slice() {
+                    let minutes = task.minutes.as_slice();
+                    *longest = longest.or(longest_in(busy, minutes, day.free_after));
+                }
             }
         }
     }

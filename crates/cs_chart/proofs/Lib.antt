@@ -2,4 +2,3 @@ pub mod Shown
 pub mod Plain
 pub mod Joined
 pub mod Rows
-pub mod Begun

@@ -3,12 +3,14 @@ use Rattle.std.specs.Prelude.{◌≡◌, ◌⊎◌, ℕ, List, [], Option, Some,
 use Rattle.clap.specs.Words.{Text}
 use Rattle.cs_crontab.specs.Crontab.{Table}
 use Rattle.cs_anacrontab.specs.Anacrontab.{Table as JobTable}
-use Rattle.cs_args.specs.CommandLine.{AskedChart}
+use Rattle.cs_args.specs.Asked.{AskedChart}
 use Rattle.cs_args.specs.Question.{IsBadWord, IsQuestion, Question}
 use Rattle.cs_args.specs.Words.{word_fault}
 use Rattle.cs_args.specs.declared.question.WordFault.{WordFault}
+use Rattle.cs_civil.specs.Calendar.{Kind}
+use Rattle.cs_windows.specs.Windows.{Job}
 use Rattle.cs_chart.specs.Bars.{days_shown}
-use Rattle.cs_chart.specs.Chart.{IsPictureOf, ShownJob, jobs_of_plan, jobs_of_tables}
+use Rattle.cs_chart.specs.Chart.{IsPictureOf, jobs_of_plan, jobs_of_tables}
 use Rattle.cs_chart.specs.declared.row.Terms.{Terms}
 use Rattle.cs_io.specs.Files.{Failed}
 use Rattle.cs_files.specs.Reads.{AndThen, Answered, GivesSome, ReadsDeclared, ReadsTables}
@@ -20,7 +22,7 @@ abbrev pub terms_of : Question → Terms
 terms_of q = record { max = q.max; from = q.from; to = q.to }
 
 -- a picture of those jobs is printed, over so many days from the asked one on
-abbrev pub IsPicture : Question → ℕ → List ShownJob → Ending → Type 0
+abbrev pub IsPicture : Question → ℕ → List (Option (Job Kind)) → Ending → Type 0
 IsPicture q days jobs ending = (ending.status ≡ 0) × (ending.err ≡ [])
     × IsPictureOf (days_shown q.day days) jobs ending.out
 

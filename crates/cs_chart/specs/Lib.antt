@@ -2,5 +2,4 @@ pub mod Bars
 pub mod Picture
 pub mod Chart
 pub mod Rows
-pub mod Begun
 pub mod Answer

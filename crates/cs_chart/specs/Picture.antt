@@ -1,5 +1,5 @@
 -- The text of a picture, and the rows that stand in it.
-use Rattle.std.specs.Prelude.{◌≡◌, ℕ, ◌+◌, ◌-◌, ◌==◌, Bool, true, not, ◌&&◌, nat_lt, if◌then◌else◌, List, [], ◌∷◌, ◌++◌, codes, decimal, flat_map, Option, None, Some}
+use Rattle.std.specs.Prelude.{◌≡◌, ℕ, ◌-◌, ◌==◌, Bool, true, not, ◌&&◌, nat_lt, if◌then◌else◌, List, [], ◌∷◌, ◌++◌, codes, decimal, flat_map, Option, None, Some}
 use Rattle.cs_chart.specs.declared.bar.Bar.{Bar}
 
 -- bars in a colour, and how many minutes the picture shows
@@ -8,9 +8,8 @@ pub record Plot : Type 0 where
   pub colour : List ℕ
   pub bars : List Bar
 
--- what is drawn of a job: a name, how far from the top, and its bars, if it has any
+-- what is drawn of a job: how far from the top, and its bars, if it has any
 pub record Row : Type 0 where
-  pub name : List ℕ
   pub top : ℕ
   pub plot : Option Plot
 
@@ -34,10 +33,8 @@ plot_text top (Some plot) = codes "<svg x=\"256\" y=\"" ++ (decimal top
     ++ (codes " stroke=\"" ++ (plot.colour
     ++ (codes "\" stroke-width=\"10\" d=\"" ++ (flat_map bar_text plot.bars ++ codes "\"/>")))))))))
 
--- the name at the left of the row, and directly behind it the bars
 unfoldable pub row_text : Row → List ℕ
-row_text row = codes "<text x=\"10\" y=\"" ++ (decimal (row.top + 13)
-    ++ (codes "\">" ++ (row.name ++ (codes "</text>\n" ++ plot_text row.top row.plot))))
+row_text row = plot_text row.top row.plot
 
 -- the texts are the same as far as both go
 abbrev pub agree : List ℕ → List ℕ → Bool

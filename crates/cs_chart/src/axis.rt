@@ -22,18 +22,6 @@ fn hours_apart(days: u8) -> u32
     }
 }
 
-/// Adds the dates, each in the middle of its day.
-fn push_dates(text: &mut String, span: DaySpan, y: u32) -> Result<(), AllocError> {
-    for place in 0..span.days() {
-        let noon = u32::from(MINUTES_OF_DAY) * u32::from(place) + u32::from(MINUTES_OF_DAY) / 2;
-        let x = place_of(noon, span);
-        write!(text, "<text x=\"{x}\" y=\"{y}\">")?;
-        push_day(text, span.day(place))?;
-        text.push_str("</text>\n")?;
-    }
-    Ok(())
-}
-
 /// Adds the numbers of the hours, each at the beginning of its hour.
 fn push_numbers(text: &mut String, span: DaySpan, y: u32) -> Result<(), AllocError> {
     let apart = hours_apart(span.days());
@@ -49,11 +37,17 @@ fn push_numbers(text: &mut String, span: DaySpan, y: u32) -> Result<(), AllocErr
     Ok(())
 }
 
-/// Adds the dates and the hours, and goes below them.
+/// Adds the dates, each in the middle of its day, and the hours, and goes below them.
 pub(crate) fn push_axis(sheet: &mut Sheet, span: DaySpan) -> Result<(), AllocError> {
     let (upper, lower) = (sheet.below(12), sheet.below(26));
     sheet.text.push_str("<g text-anchor=\"middle\">\n")?;
-    push_dates(&mut sheet.text, span, upper)?;
+    for place in 0..span.days() {
+        let noon = u32::from(MINUTES_OF_DAY) * u32::from(place) + u32::from(MINUTES_OF_DAY) / 2;
+        let x = place_of(noon, span);
+        write!(sheet.text, "<text x=\"{x}\" y=\"{upper}\">")?;
+        push_day(&mut sheet.text, span.day(place))?;
+        sheet.text.push_str("</text>\n")?;
+    }
     push_numbers(&mut sheet.text, span, lower)?;
     sheet.text.push_str("\n</g>\n")?;
     sheet.down(30);

@@ -9,7 +9,7 @@ use cs_windows::{Occupied, Window, windows_on};
 use std::alloc::{AllocError, Global};
 
 /// Minutes of the picture, from one on and below another, counted from the start of its first day.
-#[derive(Clone, Copy, Debug, PartialEq, Eq)]
+#[derive(Clone, Copy, PartialEq, Eq)]
 pub(crate) struct Bar {
     pub(crate) from: u32,
     pub(crate) to: u32,

@@ -32,19 +32,15 @@ pub(crate) fn title(alloc: Global, subject: &[u8], span: DaySpan) -> Result<Stri
     Ok(title)
 }
 
-/// Adds `HH:MM` of a minute of a day, `24:00` at its end.
-fn push_clock(text: &mut String, minute: u16) -> Result<(), AllocError> {
-    push_pair(text, minute / 60)?;
-    text.push_str(":")?;
-    push_pair(text, minute % 60)
-}
-
-/// Adds the catch-up hours.
+/// Adds the catch-up hours: `, catch-up from 05:00 to 24:00`.
 fn push_hours(text: &mut String, from: u16, to: u16) -> Result<(), AllocError> {
-    text.push_str(", catch-up from ")?;
-    push_clock(text, from)?;
-    text.push_str(" to ")?;
-    push_clock(text, to)
+    for (words, minute) in [(", catch-up from ", from), (" to ", to)] {
+        text.push_str(words)?;
+        push_pair(text, minute / 60)?;
+        text.push_str(":")?;
+        push_pair(text, minute % 60)?;
+    }
+    Ok(())
 }
 
 /// What holds of all jobs of which nothing is declared.

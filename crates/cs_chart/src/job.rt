@@ -1,18 +1,17 @@
 //! The row of a job: its name, its bars and its marks.
-ghost use Rattle.std.specs.Prelude.{◌≡◌, ◌≤◌, ◌++◌, IfOk, OnOk, Some, option_map, string_bytes};
+ghost use Rattle.std.specs.Prelude.{◌≤◌, OnOk, Some};
 ghost use Rattle.cs_windows.specs.Occupied.{job_of};
-ghost use Rattle.cs_chart.specs.Chart.{IsNamed};
-ghost use Rattle.cs_chart.specs.Rows.{AddsPlot, AddsRowOf, shown_of, start_of};
+ghost use Rattle.cs_chart.specs.Rows.{AddsRowOf, shown_of};
 
 use crate::bar::{Bar, bars_of};
 use crate::load::Load;
 use crate::look::{colour_of, push_lines};
-use crate::marks::{Drawn, marks_of, without_gaps};
+use crate::marks::{marks_of, without_gaps};
 use crate::meeting::Meeting;
 use crate::row::{Name, Row};
-use crate::sheet::{NAME_CELLS, PLOT_LEFT, PLOT_RIGHT};
+use crate::sheet::{MARGIN, NAME_CELLS, PLOT_LEFT, PLOT_RIGHT};
 use crate::span::DaySpan;
-use crate::svg::{Svg, plain};
+use crate::svg::{Svg, push_path};
 use crate::text::{push_cut, push_label};
 use cs_command::program_text;
 use cs_history::Mode;
@@ -22,7 +21,7 @@ use std::alloc::{AllocError, Global};
 use std::fmt::Write;
 
 /// What a row shows beside its job.
-#[derive(Clone, Copy, Debug)]
+#[derive(Clone, Copy)]
 pub(crate) struct Beside<'a> {
     pub(crate) span: DaySpan,
     /// The groups that are declared.
@@ -36,30 +35,32 @@ const TOLD_CELLS: usize = 120;
 
 // ---- names
 
-/// Adds how a name begins: `line 5 ` or `job `.
-fn push_start(text: &mut String, name: Name<'_>) -> Result<(), AllocError>
-    ensures { OnOk result (string_bytes text.new ≡ string_bytes text.old ++ start_of name.entry) }
-{
+/// Adds `line 5 ` or `job `, and words behind it, so many cells of all at most.
+fn push_words(
+    text: &mut String,
+    name: Name<'_>,
+    words: &[u8],
+    cells: usize,
+) -> Result<(), AllocError> {
+    let start = text.len();
     match name {
-        Name::Line(number, _) => write!(text, "line {number} "),
-        Name::Job(_) => text.push_str("job "),
+        Name::Line(number, _) => write!(text, "line {number} ")?,
+        Name::Job(_) => text.push_str("job ")?,
     }
+    let left = cells.saturating_sub(text.len().saturating_sub(start));
+    push_cut(text, words, left)
 }
 
-/// `line 5 /usr/bin/backup` or `job cron.weekly`, as far as there is room for it in front of the bars.
-fn label_of(alloc: Global, name: Name<'_>) -> Result<String, AllocError>
-    ensures { IfOk result (λ text. IsNamed (start_of name.entry) (string_bytes text)) }
-{
-    let mut text = String::new(alloc);
-    push_start(&mut text, name)?;
+/// Adds `line 5 /usr/bin/backup` or `job cron.weekly`, as far as there is room for it in front of
+/// the bars.
+fn push_name(text: &mut String, name: Name<'_>, y: u32) -> Result<(), AllocError> {
     let words = match name {
         Name::Line(_, command) => program_text(command),
         Name::Job(identifier) => identifier,
     };
-    let mut rest = String::new(alloc);
-    push_cut(&mut rest, words, NAME_CELLS.saturating_sub(text.len()))?;
-    text.push_str(plain(rest.as_str()))?;
-    Ok(text)
+    write!(text, "<text x=\"{MARGIN}\" y=\"{y}\">")?;
+    push_words(text, name, words, NAME_CELLS)?;
+    text.push_str("</text>\n")
 }
 
 /// Adds which jobs it meets: `, meets line 5, job cron.weekly`.
@@ -95,14 +96,12 @@ fn group_of<'a>(row: &Row<'_>, groups: &'a [Group]) -> Option<&'a Group> {
 
 /// Adds the name of a job, and where its line comes from, if it is one of a gathered table:
 /// `line 5 /usr/bin/backup from /etc/cron.d/munin:12 (munin)`.
-fn push_name(text: &mut String, row: &Row<'_>) -> Result<(), AllocError> {
-    let start = text.len();
-    push_start(text, row.name)?;
-    let left = TOLD_CELLS.saturating_sub(text.len().saturating_sub(start));
-    match row.name {
-        Name::Line(_, command) => push_cut(text, command, left)?,
-        Name::Job(identifier) => push_cut(text, identifier, left)?,
-    }
+fn push_full_name(text: &mut String, row: &Row<'_>) -> Result<(), AllocError> {
+    let words = match row.name {
+        Name::Line(_, command) => command,
+        Name::Job(identifier) => identifier,
+    };
+    push_words(text, row.name, words, TOLD_CELLS)?;
     if let Some(origin) = row.origin {
         text.push_str(" from ")?;
         push_cut(text, origin.origin.as_slice(), TOLD_CELLS)?;
@@ -117,7 +116,7 @@ fn push_name(text: &mut String, row: &Row<'_>) -> Result<(), AllocError> {
 fn push_told(text: &mut String, row: &Row<'_>, beside: &Beside<'_>) -> Result<(), AllocError> {
     let max = row.max;
     text.push_str("<title>")?;
-    push_name(text, row)?;
+    push_full_name(text, row)?;
     write!(text, ": at most {max} min")?;
     if let Some(job) = row.declared {
         let weight = job.weight;
@@ -139,13 +138,7 @@ fn push_told(text: &mut String, row: &Row<'_>, beside: &Beside<'_>) -> Result<()
 /// Adds lines along a row, from the beginning of each bar to its end.
 fn push_stretches(text: &mut String, start: &str, bars: &[Bar]) -> Result<(), AllocError> {
     text.push_str(start)?;
-    for bar in bars {
-        let from = bar.from;
-        if from < bar.to {
-            let length = bar.to - from;
-            write!(text, "M{from} 9h{length}")?;
-        }
-    }
+    push_path(text, bars)?;
     text.push_str("\"/>")
 }
 
@@ -167,20 +160,9 @@ fn push_ends(text: &mut String, span: DaySpan, bars: &[Bar]) -> Result<(), Alloc
     text.push_str("\"/>")
 }
 
-/// Adds due minutes: a mark for each, or a band from the first to the last of many.
-fn push_marks(text: &mut String, span: DaySpan, marks: &Drawn) -> Result<(), AllocError> {
-    if marks.bars.is_empty() {
-        return Ok(());
-    }
-    if marks.is_coarse {
-        let start = "<path class=\"many\" stroke=\"#000\" stroke-width=\"3\" d=\"";
-        push_stretches(text, start, marks.bars.as_slice())?;
-    }
-    push_ends(text, span, marks.bars.as_slice())
-}
-
-/// Adds over the bars of a job the lines of its group, where windows meet others, and the due minutes of a
-/// cron job. Tells whether some of these are drawn as one.
+/// Adds over the bars of a job the lines of its group, where windows meet others, and the due
+/// minutes of a cron job: a mark for each, or a band from the first to the last of many. Tells
+/// whether some of these are drawn as one.
 fn push_over(
     alloc: Global,
     text: &mut String,
@@ -200,27 +182,31 @@ fn push_over(
         return Ok(false);
     };
     let marks = marks_of(alloc, schedule, span, 4 * u32::from(span.days()))?;
-    push_marks(text, span, &marks)?;
+    if marks.is_coarse {
+        let start = "<path class=\"many\" stroke=\"#000\" stroke-width=\"3\" d=\"";
+        push_stretches(text, start, marks.bars.as_slice())?;
+    }
+    if !marks.bars.is_empty() {
+        push_ends(text, span, marks.bars.as_slice())?;
+    }
     Ok(marks.is_coarse)
 }
 
 // ---- the row
 
-/// Adds the name of a job with its bars and marks, and its weight to the load. Tells whether some
-/// are drawn as one.
+/// Adds the bars and marks of a job, and its weight to the load. Tells whether some are drawn as one.
 fn push_plot(
     alloc: Global,
     svg: &mut Svg,
     row: &Row<'_>,
     occupied: &Occupied<'_>,
-    name: &str,
     top: u32,
     beside: &Beside<'_>,
     load: &mut Load,
 ) -> Result<bool, AllocError>
     requires { top ≤ 100_000 }
-    ensures { OnOk result (AddsPlot beside.now.span (Some (job_of occupied.now)) name.now top
-        svg.old svg.new) }
+    ensures { OnOk result
+        (AddsRowOf beside.now.span (Some (job_of occupied.now)) top svg.old svg.new) }
 {
     let span = beside.span;
     let bars = bars_of(alloc, *occupied, span)?;
@@ -229,7 +215,7 @@ fn push_plot(
     }
     let drawn = without_gaps(alloc, bars.as_slice(), 2 * u32::from(span.days()))?;
     let colour = colour_of(row.group());
-    svg.push_bars(name, top, span.minutes(), colour, drawn.bars.as_slice())?;
+    svg.push_bars(top, span.minutes(), colour, drawn.bars.as_slice())?;
     let mut over = String::new(alloc);
     let is_coarse = push_over(alloc, &mut over, row, occupied, beside)?;
     over.push_str("</svg>\n")?;
@@ -237,29 +223,24 @@ fn push_plot(
     Ok(is_coarse || drawn.is_coarse)
 }
 
-/// Adds the name of a job and what is drawn of it.
+/// Adds the bars of a job, if it has some.
 fn push_job(
     alloc: Global,
     svg: &mut Svg,
     row: &Row<'_>,
-    name: &str,
     top: u32,
     beside: &Beside<'_>,
     load: &mut Load,
 ) -> Result<bool, AllocError>
     requires { top ≤ 100_000 }
-    ensures { OnOk result (AddsPlot beside.now.span (option_map job_of row.now.occupied) name.now
-        top svg.old svg.new) }
+    ensures { OnOk result (AddsRowOf beside.now.span (shown_of row.now) top svg.old svg.new) }
 {
     match &row.occupied {
         Some(occupied) => {
-            let is_coarse = push_plot(alloc, svg, row, occupied, name, top, beside, load)?;
+            let is_coarse = push_plot(alloc, svg, row, occupied, top, beside, load)?;
             Ok(is_coarse)
         }
-        None => {
-            svg.push_name(name, top)?;
-            Ok(false)
-        }
+        None => Ok(false),
     }
 }
 
@@ -296,11 +277,11 @@ pub(crate) fn push_row(
     requires { top ≤ 100_000 }
     ensures { OnOk result (AddsRowOf beside.now.span (shown_of row.now) top svg.old svg.new) }
 {
-    let name = label_of(alloc, row.name)?;
     let mut before = String::from_str(alloc, "<g class=\"row\">")?;
     push_told(&mut before, row, beside)?;
+    push_name(&mut before, row.name, top + 13)?;
     svg.push_str(before.as_str())?;
-    let is_coarse = push_job(alloc, svg, row, name.as_str(), top, beside, load)?;
+    let is_coarse = push_job(alloc, svg, row, top, beside, load)?;
     let behind = behind_text(alloc, row, top, beside.groups)?;
     svg.push_str(behind.as_str())?;
     Ok(is_coarse)

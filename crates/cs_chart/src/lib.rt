@@ -7,7 +7,6 @@ mod axis;
 mod bar;
 mod heading;
 mod job;
-mod laws;
 mod load;
 mod look;
 mod marks;
@@ -20,6 +19,5 @@ mod svg;
 mod text;
 
 pub use answer::answer_chart;
-pub use laws::rows_have_bars;
 pub use picture::{Subject, chart, plan_chart};
 pub use row::Terms;

@@ -10,7 +10,7 @@ use std::fmt::Write;
 const HEIGHT: u32 = 100;
 
 /// The load of each minute of the picture.
-#[derive(Debug, Drop)]
+#[derive(Drop)]
 pub(crate) struct Load {
     minutes: Vec<u32>,
 }

@@ -9,7 +9,7 @@ use cs_schedule::{MinuteSet, Schedule};
 use std::alloc::{AllocError, Global};
 
 /// Bars or marks as they are drawn.
-#[derive(Debug, Drop)]
+#[derive(Drop)]
 pub(crate) struct Drawn {
     pub(crate) bars: Vec<Bar>,
     /// Whether some of them were nearer than the picture can show, and are drawn as one.

@@ -8,7 +8,7 @@ use cs_plan::Group;
 use std::alloc::{AllocError, Global};
 
 /// What the windows of a job meet.
-#[derive(Debug, Drop)]
+#[derive(Drop)]
 pub(crate) struct Meeting<'a> {
     /// The minutes that windows of others hold with its own.
     pub(crate) bars: Vec<Bar>,
@@ -17,18 +17,10 @@ pub(crate) struct Meeting<'a> {
 }
 
 /// A row, and the minutes that its windows hold, a bit each.
-#[derive(Debug, Drop)]
+#[derive(Drop)]
 struct Holder<'a> {
     row: Row<'a>,
     held: Vec<u64>,
-}
-
-/// Whether the row is that of a command.
-fn is_cron(row: &Row<'_>) -> bool {
-    match row.name {
-        Name::Line(_, _) => true,
-        Name::Job(_) => false,
-    }
 }
 
 /// Whether windows of both may not meet: these are of one exclusive group, one of them is of the crontab,
@@ -44,9 +36,13 @@ fn clash(groups: &[Group], row: &Row<'_>, other: &Row<'_>) -> bool {
         Some(group) => group.is_exclusive(),
         None => false,
     };
+    let is_cron = match (row.name, other.name) {
+        (Name::Job(_), Name::Job(_)) => false,
+        _ => true,
+    };
     is_exclusive
+        && is_cron
         && own.group == others.group
-        && (is_cron(row) || is_cron(other))
         && !(own.mode.takes_lock() && others.mode.takes_lock())
 }
 
@@ -146,6 +142,25 @@ fn holders_of<'a>(
     Ok(holders)
 }
 
+/// Whether windows of some rows meet.
+pub(crate) fn some_meet(meetings: &[Meeting<'_>]) -> bool {
+    for meeting in meetings {
+        if !meeting.bars.is_empty() {
+            return true;
+        }
+    }
+    false
+}
+
+fn some_exclusive(groups: &[Group]) -> bool {
+    for group in groups {
+        if group.is_exclusive() {
+            return true;
+        }
+    }
+    false
+}
+
 /// What the windows of each row meet, in the order of rows; nothing where no group is exclusive.
 /// The only error is want of memory.
 pub(crate) fn meetings_of<'a>(
@@ -155,7 +170,7 @@ pub(crate) fn meetings_of<'a>(
     span: DaySpan,
 ) -> Result<Vec<Meeting<'a>>, AllocError> {
     let mut meetings = Vec::new(alloc);
-    if !groups.iter().any(|group| group.is_exclusive()) {
+    if !some_exclusive(groups) {
         return Ok(meetings);
     }
     let holders = holders_of(alloc, rows, span)?;

@@ -9,7 +9,7 @@ use crate::axis::{push_axis, push_grid, push_hours, push_hours_between};
 use crate::heading::{plan_text, push_groups, push_key, push_title, terms_text, title};
 use crate::job::{Beside, push_row};
 use crate::load::Load;
-use crate::meeting::{Meeting, meetings_of};
+use crate::meeting::{Meeting, meetings_of, some_meet};
 use crate::row::{Row, Terms, plan_rows, table_rows};
 use crate::sheet::{HOURS, ROW, ROWS_OF_HOURS, Sheet};
 use crate::span::{DaySpan, MOST_DAYS};
@@ -28,7 +28,7 @@ const MANY_ROWS: usize = 25;
 const LOWEST: u32 = 10_000;
 
 /// What is drawn.
-#[derive(Clone, Copy, Debug)]
+#[derive(Clone, Copy)]
 struct Scene<'a> {
     title: &'a str,
     terms: &'a str,
@@ -107,12 +107,16 @@ fn push_note(sheet: &mut Sheet, note: &str) -> Result<(), AllocError> {
     Ok(())
 }
 
-/// Whether a job may have to wait for its lock.
-fn waits(row: &Row<'_>) -> bool {
-    match row.declared {
-        Some(job) => job.mode.waits(),
-        None => false,
+/// Whether some job may have to wait for its lock.
+fn some_wait(rows: &[Row<'_>]) -> bool {
+    for row in rows {
+        if let Some(job) = row.declared {
+            if job.mode.waits() {
+                return true;
+            }
+        }
     }
+    false
 }
 
 /// Adds what the picture leaves out, at its foot.
@@ -131,14 +135,14 @@ fn push_notes(
         )?;
         push_note(sheet, note.as_str())?;
     }
-    if scene.meetings.iter().any(|it| !it.bars.is_empty()) {
+    if some_meet(scene.meetings) {
         push_note(
             sheet,
             "red: a window of another job of its exclusive group holds the minute, and not both \
              take the group's lock",
         )?;
     }
-    if scene.rows.iter().any(|row| waits(row)) {
+    if some_wait(scene.rows) {
         push_note(
             sheet,
             "a run that waits for its lock may go on later than its bar shows",
@@ -226,7 +230,7 @@ fn draw(alloc: Global, scene: &Scene<'_>) -> Result<String, AllocError>
 }
 
 /// Of which tables a picture is.
-#[derive(Clone, Copy, Debug)]
+#[derive(Clone, Copy)]
 pub struct Subject<'a> {
     /// What the title calls them, such as the crontab's path.
     pub name: &'a [u8],

@@ -1,7 +1,7 @@
 //! The rows of a picture: what is drawn of each job.
 ghost use Rattle.std.specs.Prelude.{◌≡◌, ◌≤◌, IfOk, length, map};
-ghost use Rattle.cs_chart.specs.Chart.{jobs_of_plan, jobs_of_tables, shown_anacron, shown_command};
-ghost use Rattle.cs_chart.specs.Chart.{terms_at};
+ghost use Rattle.cs_chart.specs.Chart.{jobs_of_plan, jobs_of_tables, windows_of};
+ghost use Rattle.cs_chart.specs.Chart.{terms_at, windows_of_anacron};
 ghost use Rattle.cs_chart.specs.Rows.{shown_of};
 
 use cs_anacrontab::{Anacrontab, Job};
@@ -13,7 +13,7 @@ use cs_windows::Occupied;
 use std::alloc::{AllocError, Global};
 
 /// What holds of all jobs of two tables of which nothing is declared.
-#[derive(Clone, Copy, Debug, PartialEq, Eq)]
+#[derive(Clone, Copy, PartialEq, Eq)]
 pub struct Terms {
     /// The longest time that a run takes, in minutes from 1 to 4,320.
     pub max: u16,
@@ -24,7 +24,7 @@ pub struct Terms {
 }
 
 /// What names a job.
-#[derive(Clone, Copy, Debug)]
+#[derive(Clone, Copy)]
 pub(crate) enum Name<'a> {
     /// The number of a crontab's line, and its command.
     Line(u32, &'a [u8]),
@@ -33,7 +33,7 @@ pub(crate) enum Name<'a> {
 }
 
 /// What is declared of a job, beside its longest time.
-#[derive(Clone, Copy, Debug)]
+#[derive(Clone, Copy)]
 pub(crate) struct Declared {
     pub(crate) weight: u8,
     /// The place of its group among the plan's, if it is in one.
@@ -42,7 +42,7 @@ pub(crate) struct Declared {
 }
 
 /// What is drawn of a job.
-#[derive(Clone, Copy, Debug)]
+#[derive(Clone, Copy)]
 pub(crate) struct Row<'a> {
     pub(crate) name: Name<'a>,
     /// What its runs occupy; nothing where it is started once, at reboot.
@@ -78,7 +78,7 @@ fn line_row<'a>(
     max: u16,
     declared: Option<Declared>,
 ) -> Row<'a>
-    ensures { shown_of result ≡ shown_command max line.now }
+    ensures { shown_of result ≡ windows_of line.now.when max }
 {
     let occupied = match line.when() {
         When::At(schedule) => Some(Occupied::Cron {
@@ -99,7 +99,7 @@ fn line_row<'a>(
 /// The row of an anacron job: from the first minute at which it may be started on, up to where a run
 /// ends that starts in the last.
 fn job_row(job: &Job, terms: Terms, declared: Option<Declared>) -> Row<'_>
-    ensures { shown_of result ≡ shown_anacron terms }
+    ensures { shown_of result ≡ windows_of_anacron terms }
 {
     let hours = terms.to.saturating_sub(1).saturating_sub(terms.from);
     Row {
@@ -138,7 +138,7 @@ pub(crate) fn table_rows<'a>(
 
 /// The row of an anacron job of a plan, by the job's number.
 fn plan_row<'a>(plan: &Plan, job: &'a Job, number: u16) -> Row<'a>
-    ensures { shown_of result ≡ shown_anacron (terms_at plan.now number) }
+    ensures { shown_of result ≡ windows_of_anacron (terms_at plan.now number) }
 {
     let hours = plan.hours();
     let declared = plan.job_at(number);

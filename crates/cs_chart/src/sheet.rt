@@ -28,7 +28,7 @@ pub(crate) const ROWS_OF_HOURS: u32 = 40;
 pub(crate) const HOURS: u32 = 16;
 
 /// A part of a picture without rows: what has been written of it, and how far down it has come.
-#[derive(Debug, Drop)]
+#[derive(Drop)]
 pub(crate) struct Sheet {
     pub(crate) text: String,
     /// The top of what is drawn next.

@@ -1,6 +1,5 @@
 //! The days of a picture.
 ghost use Rattle.std.specs.Prelude.{◌≡◌, ◌+◌, ◌*◌, ◌<◌, ◌≤◌};
-ghost use Rattle.cs_civil.specs.Calendar.{last_day};
 
 use cs_civil::{Day, MINUTES_OF_DAY};
 use std::marker::Model;
@@ -15,7 +14,7 @@ const LAST_DAY: u64 = 2_932_896;
 pub(crate) const MOST_DAYS: u8 = 7;
 
 /// Successive days, one to seven, from 1970-01-04 on and none past 9999-12-31.
-#[derive(Clone, Copy, Debug, PartialEq, Eq)]
+#[derive(Clone, Copy, PartialEq, Eq)]
 pub(crate) struct DaySpan {
     start: Day,
     count: u8,

@@ -1,5 +1,5 @@
 //! The text of a picture, as it is written.
-ghost use Rattle.std.specs.Prelude.{◌≡◌, ◌++◌, ◌≤◌, List, [], true, None, Some, OnOk, flat_map, string_bytes};
+ghost use Rattle.std.specs.Prelude.{◌≡◌, ◌++◌, ◌≤◌, List, [], true, Some, OnOk, flat_map, string_bytes};
 ghost use Rattle.cs_chart.specs.Picture.{AddsRow, Draws, KeepsBars, Row, agree, bar_text, bars_tag, has_no_bars, row_text};
 
 use crate::bar::Bar;
@@ -8,7 +8,7 @@ use std::fmt::Write;
 use std::marker::Model;
 
 /// A text of elements of SVG 1.1. Bars come into it by [`push_bars`](Svg::push_bars) alone.
-#[derive(Debug, Drop)]
+#[derive(Drop)]
 pub(crate) struct Svg {
     text: String,
 }
@@ -45,20 +45,8 @@ fn has_no_bars(text: &[u8]) -> bool
     true
 }
 
-/// The text, or none of it where bars begin in it: no text that is drawn beside rows is such.
-#[tactic(auto, unfolding(crate::specs::Picture::has_no_bars))]
-pub(crate) fn plain(text: &str) -> &str
-    ensures { has_no_bars result.now ≡ true }
-{
-    if has_no_bars(text.as_bytes()) {
-        text
-    } else {
-        ""
-    }
-}
-
 /// Adds a line along the row for each bar.
-fn push_path(text: &mut String, bars: &[Bar]) -> Result<(), AllocError>
+pub(crate) fn push_path(text: &mut String, bars: &[Bar]) -> Result<(), AllocError>
     ensures { OnOk result (string_bytes text.new
         ≡ string_bytes text.old ++ flat_map bar_text bars.now) }
 {
@@ -72,22 +60,10 @@ fn push_path(text: &mut String, bars: &[Bar]) -> Result<(), AllocError>
     Ok(())
 }
 
-/// Adds the name of a row.
-#[tactic(auto, using(std::proofs::lemmas::Grind::common_steps), unfolding(crate::specs::Picture::row_text))]
-fn push_name(text: &mut String, name: &str, top: u32) -> Result<(), AllocError>
-    requires { top ≤ 100_000 }
-    ensures { OnOk result (string_bytes text.new ≡ string_bytes text.old
-        ++ row_text (record { name = name.now; top = top; plot = None })) }
-{
-    let y = top + 13;
-    write!(text, "<text x=\"10\" y=\"{y}\">{name}</text>\n")
-}
-
-/// Adds the name of a row, and its bars in an area of their own, which stays open.
+/// Adds the bars of a row in an area of their own, which stays open.
 #[tactic(auto, unfolding(crate::specs::Picture::row_text))]
 fn push_row(
     text: &mut String,
-    name: &str,
     top: u32,
     minutes: u32,
     colour: &str,
@@ -95,12 +71,10 @@ fn push_row(
 ) -> Result<(), AllocError>
     requires { top ≤ 100_000 }
     ensures { OnOk result (string_bytes text.new ≡ string_bytes text.old ++ row_text (record {
-      name = name.now;
       top = top;
       plot = Some (record { minutes = minutes; colour = colour.now; bars = bars.now });
     })) }
 {
-    push_name(text, name, top)?;
     write!(
         text,
         "<svg x=\"256\" y=\"{top}\" width=\"840\" height=\"18\" viewBox=\"0 0 {minutes} 18\" \
@@ -133,7 +107,9 @@ impl Svg {
     pub(crate) fn push_str(&mut self, text: &str) -> Result<(), AllocError>
         ensures { OnOk result (KeepsBars self.old self.new) }
     {
-        self.text.push_str(plain(text))?;
+        if has_no_bars(text.as_bytes()) {
+            self.text.push_str(text)?;
+        }
         Ok(())
     }
 
@@ -147,22 +123,10 @@ impl Svg {
         Ok(())
     }
 
-    /// Adds the name of a row that has no bars.
-    #[tactic(auto, using(crate::proofs::Plain::draws_row))]
-    pub(crate) fn push_name(&mut self, name: &str, top: u32) -> Result<(), AllocError>
-        requires { top ≤ 100_000 }
-        ensures { OnOk result (AddsRow
-            (record { name = name.now; top = top; plot = None }) self.old self.new) }
-    {
-        push_name(&mut self.text, name, top)?;
-        Ok(())
-    }
-
-    /// Adds the name of a row, and its bars in an area of their own, which stays open.
+    /// Adds the bars of a row in an area of their own, which stays open.
     #[tactic(auto, using(crate::proofs::Plain::draws_row))]
     pub(crate) fn push_bars(
         &mut self,
-        name: &str,
         top: u32,
         minutes: u32,
         colour: &str,
@@ -170,12 +134,11 @@ impl Svg {
     ) -> Result<(), AllocError>
         requires { top ≤ 100_000 }
         ensures { OnOk result (AddsRow (record {
-          name = name.now;
           top = top;
           plot = Some (record { minutes = minutes; colour = colour.now; bars = bars.now });
         }) self.old self.new) }
     {
-        push_row(&mut self.text, name, top, minutes, colour, bars)?;
+        push_row(&mut self.text, top, minutes, colour, bars)?;
         Ok(())
     }
 }

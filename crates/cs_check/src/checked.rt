@@ -7,7 +7,7 @@ use cs_plan::Plan;
 
 /// A plan with a certificate that the checker has accepted. Only [`check`](crate::check) and
 /// [`check_parallel`](crate::check_parallel) make one.
-#[derive(Debug, Drop)]
+#[derive(Drop)]
 pub struct Checked {
     pub(crate) plan: Plan,
     pub(crate) certificate: Certificate,

@@ -11,7 +11,7 @@ use cs_classes::{Claim, GroupDay, group_days};
 use std::alloc::{AllocError, Global};
 
 /// A day of a class.
-#[derive(Debug, Drop)]
+#[derive(Drop)]
 pub(crate) struct ClassDay {
     /// The lock of each group.
     pub(crate) groups: Vec<GroupDay>,

@@ -2,7 +2,7 @@ use cs_theorem::CheckFault;
 use std::alloc::AllocError;
 
 /// Why no plan was accepted.
-#[derive(Debug, Drop)]
+#[derive(Drop)]
 pub enum CheckError {
     /// The certificate is refused for this fault.
     Fault(CheckFault),

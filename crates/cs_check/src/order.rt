@@ -13,7 +13,7 @@ use cs_theorem::CheckFault;
 use std::alloc::{AllocError, Global};
 
 /// The rules that are looked at stretch by stretch.
-#[derive(Clone, Copy, Debug)]
+#[derive(Clone, Copy)]
 pub(crate) enum Rule {
     Steps,
     Leaves,

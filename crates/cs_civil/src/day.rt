@@ -9,7 +9,7 @@ const LAST_DAY: u64 = 2_932_896;
 /// A day of the Gregorian calendar.
 ///
 /// Counted in days since 1970-01-01: from 0 to 2,932,896, which is 9999-12-31.
-#[derive(Clone, Copy, Debug, PartialEq, Eq, PartialOrd, Ord, Hash)]
+#[derive(Clone, Copy, PartialEq, Eq, PartialOrd, Ord, Hash)]
 pub struct Day {
     days: u64,
 }

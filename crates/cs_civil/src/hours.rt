@@ -6,7 +6,7 @@ use std::marker::Model;
 
 /// The catch-up hours: the minutes of a day, from one up to but without another, in which an
 /// anacron job may start (`START_HOURS_RANGE` of `anacrontab(5)` in minutes).
-#[derive(Clone, Copy, Debug, PartialEq, Eq)]
+#[derive(Clone, Copy, PartialEq, Eq)]
 pub struct Hours {
     first: u16,
     end: u16,

@@ -15,7 +15,7 @@ const LEAP_YEAR: i16 = 2000;
 /// What a schedule sees of a day (crontab(5)): its month, its day of the month and its weekday.
 ///
 /// There are 2,562 of them: each of the 366 days of a leap year on each of seven weekdays.
-#[derive(Clone, Copy, Debug, PartialEq, Eq, PartialOrd, Ord, Hash)]
+#[derive(Clone, Copy, PartialEq, Eq, PartialOrd, Ord, Hash)]
 pub struct DayKind {
     month_number: u8,
     day_number: u8,

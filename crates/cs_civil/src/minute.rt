@@ -17,7 +17,7 @@ pub const LAST_MINUTE: u64 = 4_223_371_679;
 ///
 /// Counted in minutes since 1970-01-01 00:00 at the offset: from 1,440, which is 1970-01-02 00:00,
 /// to 4,223,371,679, which is 9999-12-31 23:59.
-#[derive(Clone, Copy, Debug, PartialEq, Eq, PartialOrd, Ord, Hash)]
+#[derive(Clone, Copy, PartialEq, Eq, PartialOrd, Ord, Hash)]
 pub struct Minute {
     minutes: u64,
 }

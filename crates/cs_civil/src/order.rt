@@ -1,6 +1,6 @@
-ghost use Rattle.std.specs.Prelude.{◌≡◌, ◌<◌, ◌≤◌, ◌∷◌, Some, All, Contains, length, slice_get};
+ghost use Rattle.std.specs.Prelude.{◌≡◌, ◌<◌, ◌≤◌, ◌∷◌, Some, length};
 ghost use Rattle.std.specs.Iterator.{YieldsFirst, item_count};
-ghost use Rattle.cs_civil.specs.Calendar.{Kind, IsKind};
+ghost use Rattle.cs_civil.specs.Calendar.{Kind};
 ghost use Rattle.cs_civil.specs.Order.{all_kinds, kinds_from};
 
 use crate::DayKind;
@@ -8,7 +8,7 @@ use std::iter::FusedIterator;
 use std::marker::Model;
 
 /// The iterator of [`all_kinds`], which contracts see as the list of the kinds left.
-#[derive(Debug, Drop)]
+#[derive(Drop)]
 pub struct Kinds {
     coming: Option<DayKind>,
 }

@@ -8,7 +8,7 @@ use crate::parts::Parts;
 ///
 /// Version 3 claims only which kinds of days are alike, what is left over at midnight, and the
 /// reaches; the checker works out the rest from the plan.
-#[derive(Debug, Drop)]
+#[derive(Drop)]
 pub struct Certificate {
     pub(crate) parts: Parts,
     ghost kept: { fault_of (content_of parts) ≡ None },

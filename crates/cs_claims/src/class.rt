@@ -11,7 +11,7 @@ use cs_civil::{MINUTES_OF_DAY, Sequence};
 use cs_wait::{Backlog, Piece};
 
 /// The minutes of a day at which a cron job is due.
-#[derive(Debug, Drop)]
+#[derive(Drop)]
 pub struct DueList {
     /// The job's number, below 320.
     pub job: u16,
@@ -20,7 +20,7 @@ pub struct DueList {
 }
 
 /// A bound for each minute of a day on the minutes of runs that wait for a group's lock or hold it.
-#[derive(Debug, Drop)]
+#[derive(Drop)]
 pub struct GroupBacklog {
     /// The group's number, below 64.
     pub group: u8,
@@ -34,7 +34,7 @@ pub struct GroupBacklog {
 /// A job without a list is never due, and a group without a backlog has the bound 0 everywhere. In
 /// version 3 there are no lists, and each backlog is one piece at minute 0: what is left over of
 /// the days before. Due minutes and later bounds are then worked out from the plan.
-#[derive(Debug, Drop)]
+#[derive(Drop)]
 pub struct Class {
     /// The due minutes, jobs rising.
     pub due: Sequence<DueList>,

@@ -1,7 +1,6 @@
 //! The rules of a certificate's minute trees.
 
 ghost use Rattle.std.specs.Prelude.{◌≡◌, nat_le};
-ghost use Rattle.std.specs.List.{list_all};
 ghost use Rattle.cs_windows.specs.Tree.{tree_of};
 ghost use Rattle.cs_claims.specs.Rules.{depth, entries_fit, entry_fits, is_short, leaves_pass};
 

@@ -1,7 +1,7 @@
 ghost use Rattle.std.specs.Prelude.{◌≡◌, Some};
 ghost use Rattle.std.specs.List.{list_all};
 ghost use Rattle.cs_claims.specs.Content.{content_of};
-ghost use Rattle.cs_claims.specs.Rules.{carries_fit, class_fits, classes_shaped, classes_there, fault_of, has_carries, is_carries, is_version, leaves_short, lengths_fit, lists_fit};
+ghost use Rattle.cs_claims.specs.Rules.{carries_fit, class_fits, classes_shaped, classes_there, fault_of, has_carries, is_carries, leaves_short, lengths_fit, lists_fit};
 ghost use Rattle.cs_claims.specs.Rules.{most_classes, most_days, most_reach, trees_shallow, trees_split_well};
 
 use crate::class::Class;
@@ -17,7 +17,7 @@ use cs_daytree::DayTree;
 use cs_windows::JobReach;
 
 /// The parts of a certificate, by its rules or not.
-#[derive(Debug, Drop)]
+#[derive(Drop)]
 pub struct Parts {
     /// The version: 1, 2 or 3.
     pub version: u8,

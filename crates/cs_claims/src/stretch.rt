@@ -13,7 +13,7 @@ use cs_windows::MinuteTree;
 /// last of them.
 ///
 /// Version 1 has stretches of two days, version 2 of two to four.
-#[derive(Debug, Drop)]
+#[derive(Drop)]
 pub struct Stretch {
     /// The classes of the days.
     pub of: Sequence<u32>,

@@ -8,7 +8,7 @@ use cs_claims::Certificate;
 use cs_windows::MinuteTree;
 
 /// What is judged of a certificate, borrowed.
-#[derive(Debug, Drop)]
+#[derive(Drop)]
 pub struct Claim<'a> {
     pub(crate) certificate: &'a Certificate,
     pub(crate) worked: &'a Option<WorkedOut>,

@@ -9,7 +9,7 @@ use cs_daytree::DayTree;
 use std::alloc::{AllocError, Global};
 
 /// Kinds that successive days can have, and the class of each.
-#[derive(Debug, Drop)]
+#[derive(Drop)]
 pub(crate) struct ClassedChain {
     pub(crate) kinds: Chain,
     pub(crate) classes: ArrayVec<u32, 4>,

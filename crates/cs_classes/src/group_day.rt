@@ -15,7 +15,7 @@ use cs_wait::{Backlog, steps_within};
 use std::alloc::{AllocError, Global};
 
 /// What a class has for the lock of one group on its days.
-#[derive(Clone, Copy, Debug, PartialEq, Eq)]
+#[derive(Clone, Copy, PartialEq, Eq)]
 pub struct GroupDay {
     /// Whether the bound follows the arrivals at each step within the day: true if no job waits.
     pub follows: bool,

@@ -1,6 +1,5 @@
 //! The first day of the calendar that ends days of given classes.
-ghost use Rattle.std.specs.Prelude.{◌≡◌, ◌+◌, ◌<◌, ◌≤◌, map};
-ghost use Rattle.std.specs.List.{range_with_len};
+ghost use Rattle.std.specs.Prelude.{◌≡◌, ◌+◌, ◌<◌, ◌≤◌};
 ghost use Rattle.cs_theorem.specs.Faults.{last_of, same_list};
 ghost use Rattle.cs_classes.specs.Claim.{as_certificate, class_of};
 ghost use Rattle.cs_classes.specs.Said.{said};

@@ -13,7 +13,7 @@ use cs_schedule::MinuteSet;
 use std::alloc::{AllocError, Global};
 
 /// What a class is to a cron job.
-#[derive(Clone, Copy, Debug)]
+#[derive(Clone, Copy)]
 pub struct Likeness {
     /// Whether the class has the job's due minutes of the days on which the job is due.
     pub(crate) when_due: bool,

@@ -1,5 +1,5 @@
 ghost use Rattle.std.specs.Prelude.{◌≡◌, ◌≤◌, IfOk, IfSome, None, length, map, slice_get, Some};
-ghost use Rattle.cs_plan.specs.Plan.{as_plan, crons};
+ghost use Rattle.cs_plan.specs.Plan.{crons};
 ghost use Rattle.cs_history.specs.Calm.{reach};
 ghost use Rattle.cs_windows.specs.Occupied.{job_of};
 ghost use Rattle.cs_classes.specs.Planned.{IsSchedule, cron_reach, planned, planned_job};

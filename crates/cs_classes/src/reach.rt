@@ -1,5 +1,5 @@
 //! Whether the claimed bounds are zero within a job's reach.
-ghost use Rattle.std.specs.Prelude.{◌≡◌, ◌≤◌, ◌<◌, ◌↔◌, ℕ, All, [], IsTrue, length, map, take, unwrap_or};
+ghost use Rattle.std.specs.Prelude.{◌≡◌, ◌≤◌, ◌<◌, ◌↔◌, All, [], IsTrue, length, map, take, unwrap_or};
 ghost use Rattle.cs_claims.specs.Certificate.{bound_in};
 ghost use Rattle.cs_plan.specs.Plan.{as_plan, crons};
 ghost use Rattle.cs_history.specs.Plan.{waits};

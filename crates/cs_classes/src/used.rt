@@ -16,7 +16,7 @@ use cs_windows::MinuteTree;
 use std::alloc::{AllocError, Global};
 
 /// A stretch of a certificate that successive days have.
-#[derive(Debug, Drop)]
+#[derive(Drop)]
 pub struct UsedStretch<'a> {
     /// The classes of its days, eldest first.
     pub of: &'a [u32],

@@ -3,7 +3,6 @@ ghost use Rattle.std.specs.Prelude.{◌≡◌, ◌≤◌, ◌<◌, ◌++◌, [],
 ghost use Rattle.cs_claims.specs.Certificate.{bound_in};
 ghost use Rattle.cs_classes.specs.Planned.{is_due_on};
 ghost use Rattle.cs_classes.specs.StandsFor.{bound_of, due_list, due_of, unbounded, waited_groups, worked_class};
-ghost use Rattle.cs_plan.specs.Plan.{as_plan};
 ghost use Rattle.cs_windows.specs.Windows.{day_minutes};
 
 use crate::locks::has_waiter;

@@ -18,7 +18,7 @@ use indexmap::IndexSet;
 use std::alloc::{AllocError, Global};
 
 /// The classes and the stretches that a certificate of version 3 stands for.
-#[derive(Debug, Drop)]
+#[derive(Drop)]
 pub struct WorkedOut {
     /// The classes, by number.
     pub classes: Vec<Class>,

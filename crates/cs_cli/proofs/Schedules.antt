@@ -31,7 +31,7 @@ use Rattle.cs_maker.specs.declared.reason.Reason.{Reason}
 use Rattle.cs_maker.specs.declared.reason.Reason.TheVariants.{LeafTooLong, NoMemory, NoReach, NoScript, NotChecked, TooDeep, TooManyClasses}
 use Rattle.cs_theorem.specs.Told.{told}
 use Rattle.cs_theorem.specs.declared.check_fault.CheckFault.{CheckFault}
-use Rattle.cs_args.specs.CommandLine.{AskedCheck, AskedJudge, AskedMake, AskedRun}
+use Rattle.cs_args.specs.Asked.{AskedCheck, AskedJudge, AskedMake, AskedRun}
 use Rattle.cs_io.specs.Files.{Failed}
 use Rattle.cs_files.specs.Fitting.{fitting, has_other_parts}
 use Rattle.cs_files.specs.Reads.{AndThen, Gives, GivesSome, MeansTable, PlacesIn, ReadsAs, ReadsEntries, ReadsFitting, ReadsJobs, ReadsTables, behind, planned}

@@ -13,7 +13,7 @@ use Rattle.cs_judge.specs.declared.answers.Wanted.{Wanted}
 use Rattle.cs_judge.specs.declared.answers.Wanted.TheVariants.{Certificate, Compact, Verdict}
 use Rattle.cs_theorem.specs.Told.{told}
 use Rattle.cs_report.specs.Warning.{plan_notes}
-use Rattle.cs_args.specs.CommandLine.{AskedJudge, AskedMake}
+use Rattle.cs_args.specs.Asked.{AskedJudge, AskedMake}
 use Rattle.cs_io.specs.Files.{Failed}
 use Rattle.cs_files.specs.Response.{Ending}
 use Rattle.cs_files.specs.Reads.{AndThen, Answered, GivesSome, ReadsFitting, ReadsTables, WithPlaces}

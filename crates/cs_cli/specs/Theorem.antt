@@ -26,8 +26,7 @@ use Rattle.cs_counterexample.specs.Break.{first_break}
 use Rattle.cs_counterexample.specs.declared.shown.Shown.{Shown}
 use Rattle.cs_maker.specs.declared.reason.Reason.{Reason}
 use Rattle.cs_judge.specs.Answer.{IsUnknownText, IsUnsafeText, unknown_text}
-use Rattle.cs_args.specs.Asked.{asked_run}
-use Rattle.cs_args.specs.CommandLine.{AskedRun}
+use Rattle.cs_args.specs.Asked.{asked_run, AskedRun}
 use Rattle.cs_files.specs.Fitting.{has_other_parts}
 use Rattle.cs_files.specs.Response.{Ending}
 use Rattle.cs_ruling.specs.Check.{verdict_text}

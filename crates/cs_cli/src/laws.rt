@@ -1,7 +1,7 @@
 //! What the words of `check`, `judge`, `make` and `run` say of the bytes of their files, and what
 //! is judged of a certificate of version 1.
 ghost use Rattle.std.specs.Prelude.{◌≡◌, ◌≢◌, ◌≤◌, ◌↔◌, ℕ, All, List, None, Ok, Option, Some};
-ghost use Rattle.cs_args.specs.CommandLine.{AskedCheck, AskedJudge, AskedMake, AskedRun};
+ghost use Rattle.cs_args.specs.Asked.{AskedCheck, AskedJudge, AskedMake, AskedRun};
 ghost use Rattle.cs_claims.specs.Content.{Content};
 ghost use Rattle.cs_cert.specs.Denoted.{certificate_by};
 ghost use Rattle.cs_check.specs.Case.{fault_of};

@@ -195,15 +195,15 @@ abbrev pub of_fault : Option Wrong → Call → Reading
 of_fault None call = of_folder call.folder call.is_reversed
 of_fault (Some fault) call = Unread (why fault)
 
--- at the end of the words; an option may lack its value there
-abbrev pub ended : Next → Call → Call
-ended Value call = refused UnknownOption call
-ended Word call = call
-ended Operand call = call
-ended Nothing call = call
-
+-- at the end of the words an option may lack its value
 abbrev pub of_call : Call → Reading
-of_call call = let done = ended call.next call in of_fault done.fault done
+of_call call = at_end call.next
+  where
+    at_end : Next → Reading
+    at_end Value = Unread (why UnknownOption)
+    at_end Word = of_fault call.fault call
+    at_end Operand = of_fault call.fault call
+    at_end Nothing = of_fault call.fault call
 
 -- what the words of a call run
 unfoldable pub run_by : List (List ℕ) → Reading

@@ -5,9 +5,11 @@ use Rattle.std.specs.Char.{is_ascii_alphanumeric}
 use Rattle.std.specs.List.{ends_with, list_all, list_any, slice_split, starts_with}
 use Rattle.cs_table.specs.Text.{after, front, is_blank, is_nothing, is_solid, begins_with, is_digit}
 use Rattle.cs_table.specs.SettingReading.{◌>>=◌}
-use Rattle.cs_command.specs.RunParts.{is_of}
+use Rattle.cs_command.specs.RunParts.{is_inner, is_of, is_unsigned}
 use Rattle.cs_command.specs.declared.named.Kind.{Kind}
 use Rattle.cs_command.specs.declared.named.Kind.TheVariants.{Locks, Leaves, Limits}
+use Rattle.cs_command.specs.declared.words.Class.{Class}
+use Rattle.cs_command.specs.declared.words.Class.TheVariants.{Inner, Unsigned, Quoted, Name}
 
 -- the word is one of those in the list, which have a blank between them
 abbrev pub is_one_of : List ℕ → List ℕ → Bool
@@ -23,6 +25,13 @@ is_quoted_byte byte = is_plain_byte byte || is_blank byte
 -- a byte of a name
 abbrev pub is_name_byte : ℕ → Bool
 is_name_byte byte = is_ascii_alphanumeric byte || byte == 95
+
+-- bytes that stand together
+abbrev pub holds : Class → ℕ → Bool
+holds Inner = is_inner
+holds Unsigned = is_unsigned
+holds Quoted = is_quoted_byte
+holds Name = is_name_byte
 
 -- blanks end a word
 abbrev pub first_word : List ℕ → List ℕ

@@ -1,8 +1,10 @@
 //! A call of run-parts(8), read word by word.
-ghost use Rattle.std.specs.Prelude.{◌≡◌, ◌∷◌, ◌&&◌, ◌||◌, [], MatchResult, codes, false, nat_eq, true};
-ghost use Rattle.std.specs.List.{list_any, starts_with};
+ghost use Rattle.std.specs.Prelude.{◌≡◌, MatchResult, false, true};
+ghost use Rattle.std.specs.List.{list_any};
 ghost use Rattle.cs_table.specs.Text.{begins_with};
-ghost use Rattle.cs_command.specs.RunParts.{ended, first_call, is_among, is_of, is_option, is_path, is_plain, is_quiet, is_shell_byte, of_call, of_fault, of_folder, refused, seen, why, with_folder, with_operand, with_option, with_value, with_word};
+ghost use Rattle.cs_command.specs.RunParts.{first_call, is_path, is_plain, is_quiet, is_shell_byte};
+ghost use Rattle.cs_command.specs.RunParts.{of_call, refused, seen, why, with_operand};
+ghost use Rattle.cs_command.specs.RunParts.{with_option, with_word};
 
 use crate::fronts::begins_with;
 use crate::running::RunParts;
@@ -88,10 +90,9 @@ fn is_plain(word: &[u8]) -> bool
     !has_shell_byte(word)
 }
 
-/// Whether an option has no value, and changes nothing about which programs run.
-fn is_quiet_word(word: &[u8]) -> bool
-    ensures { result ≡ is_among (codes "--report" ∷ codes "-v" ∷ codes "--verbose"
-        ∷ codes "--exit-on-error" ∷ codes "--new-session" ∷ codes "--stdin" ∷ []) word.now }
+/// Whether an option changes nothing about which programs run.
+fn is_quiet(word: &[u8]) -> bool
+    ensures { result ≡ is_quiet word.now }
 {
     let words: [&[u8]; 6] = [
         b"--report",
@@ -102,36 +103,8 @@ fn is_quiet_word(word: &[u8]) -> bool
         b"--stdin",
     ];
     is_among(&words, word)
-}
-
-/// Whether an option has a value behind `=`, and changes nothing about which programs run.
-fn is_valued(word: &[u8]) -> bool
-    ensures { result ≡ (starts_with nat_eq word.now (codes "--arg=")
-        || starts_with nat_eq word.now (codes "--umask=")) }
-{
-    word.starts_with(b"--arg=".as_slice()) || word.starts_with(b"--umask=".as_slice())
-}
-
-/// Whether an option changes nothing about which programs run.
-fn is_quiet(word: &[u8]) -> bool
-    ensures { result ≡ is_quiet word.now }
-{
-    is_quiet_word(word) || is_valued(word) && is_plain(word)
-}
-
-/// Whether the value of an option comes next.
-fn awaits_value(word: &[u8]) -> bool
-    ensures { result ≡ is_among (codes "-a" ∷ codes "-u" ∷ []) word.now }
-{
-    let words: [&[u8]; 2] = [b"-a", b"-u"];
-    is_among(&words, word)
-}
-
-/// Whether the word is an option: `-` alone is none.
-fn is_option(word: &[u8]) -> bool
-    ensures { result ≡ is_option word.now }
-{
-    begins_with(b'-', word) && word != b"-".as_slice()
+        || (word.starts_with(b"--arg=".as_slice()) || word.starts_with(b"--umask=".as_slice()))
+            && is_plain(word)
 }
 
 /// The path from the root that a word stands for, if it is one.
@@ -204,7 +177,8 @@ impl<'c> Call<'c> {
         if is_quiet(word) {
             return self;
         }
-        if awaits_value(word) {
+        let valued: [&[u8]; 2] = [b"-a", b"-u"];
+        if is_among(&valued, word) {
             return self.awaiting(Next::Value);
         }
         if word == b"--reverse".as_slice() {
@@ -216,20 +190,10 @@ impl<'c> Call<'c> {
         if word == b"--".as_slice() {
             return self.awaiting(Next::Operand);
         }
-        if is_option(word) {
+        if begins_with(b'-', word) && word != b"-".as_slice() {
             return self.refused(Wrong::UnknownOption);
         }
         self.with_operand(word)
-    }
-
-    fn with_value(self, word: &[u8]) -> Call<'c>
-        ensures { result ≡ with_value word.now self.entry }
-    {
-        if is_plain(word) {
-            self.awaiting(Next::Word)
-        } else {
-            self.refused(Wrong::UnknownOption)
-        }
     }
 
     /// With the next word.
@@ -239,26 +203,23 @@ impl<'c> Call<'c> {
     {
         match self.awaited {
             Next::Word => self.with_option(word),
-            Next::Value => self.with_value(word),
+            Next::Value if is_plain(word) => self.awaiting(Next::Word),
+            Next::Value => self.refused(Wrong::UnknownOption),
             Next::Operand => self.with_operand(word),
             Next::Nothing => self,
         }
     }
 
-    /// At the end of its words.
-    fn ended(self) -> Call<'c>
-        ensures { result ≡ ended self.entry.next self.entry }
+    /// What it runs, at the end of its words.
+    pub(crate) fn runs(self) -> RunParts<'c>
+        ensures { seen result ≡ of_call self.entry }
     {
-        match self.awaited {
-            Next::Value => self.refused(Wrong::UnknownOption),
-            _ => self,
+        if let Next::Value = self.awaited {
+            return RunParts::Unread(Wrong::UnknownOption.text());
         }
-    }
-
-    /// The programs of its folder.
-    fn of_folder(self) -> RunParts<'c>
-        ensures { seen result ≡ of_folder self.entry.folder self.entry.is_reversed }
-    {
+        if let Some(wrong) = self.wrong {
+            return RunParts::Unread(wrong.text());
+        }
         let Some(word) = self.path else {
             return RunParts::Unread(Wrong::NoFolder.text());
         };
@@ -268,17 +229,6 @@ impl<'c> Call<'c> {
                 is_reversed: self.reverses,
             },
             Err(wrong) => RunParts::Unread(wrong.text()),
-        }
-    }
-
-    /// What it runs.
-    pub(crate) fn runs(self) -> RunParts<'c>
-        ensures { seen result ≡ of_call self.entry }
-    {
-        let call = self.ended();
-        match call.wrong {
-            Some(wrong) => RunParts::Unread(wrong.text()),
-            None => call.of_folder(),
         }
     }
 }

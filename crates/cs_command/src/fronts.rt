@@ -1,28 +1,14 @@
 //! What may stand before a plain call of flock(1) or timeout(1): settings, guards, nice(1) and
 //! ionice(1).
 ghost use Rattle.std.specs.Prelude.{◌≡◌, option_map};
-ghost use Rattle.cs_table.specs.Text.{after, begins_with};
+ghost use Rattle.cs_table.specs.Text.{begins_with};
 ghost use Rattle.cs_command.specs.Words.{behind_front, behind_guard, behind_nice_option, is_setting};
-ghost use Rattle.cs_command.specs.Words.{behind_all, is_name_byte};
+ghost use Rattle.cs_command.specs.Words.{behind_all};
 
 use crate::words::{
-    behind_plain, behind_this, behind_word, behind_words, first_word, is_name_byte, is_one_of,
+    Class, behind_plain, behind_this, behind_word, behind_words, first_word, is_name_byte,
+    is_one_of, split_front,
 };
-
-/// What stands behind the bytes of a name.
-#[tactic(auto, unfolding(cs_table::specs::Text::after))]
-fn behind_name(text: &[u8]) -> &[u8]
-    ensures { result.now ≡ after is_name_byte text.now }
-{
-    let mut rest = text;
-    while let [first, others @ ..] = rest {
-        if !is_name_byte(*first) {
-            return rest;
-        }
-        rest = others;
-    }
-    rest
-}
 
 pub(crate) fn begins_with(byte: u8, text: &[u8]) -> bool
     ensures { result ≡ begins_with byte text.now }
@@ -42,7 +28,7 @@ pub(crate) fn is_setting(word: &[u8]) -> bool
         [first, others @ ..] => {
             is_name_byte(*first)
                 && !first.is_ascii_digit()
-                && begins_with(b'=', behind_name(others))
+                && begins_with(b'=', split_front(Class::Name, others).1)
         }
         [] => false,
     }

@@ -7,7 +7,7 @@ use crate::fronts::begins_with;
 use crate::words::is_one_of;
 
 /// What a program does that a draft has to know of.
-#[derive(Clone, Copy, Debug)]
+#[derive(Clone, Copy)]
 pub(crate) enum Kind {
     /// It locks files.
     Locks,

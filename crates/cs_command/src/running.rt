@@ -2,16 +2,17 @@
 ghost use Rattle.std.specs.Prelude.{◌≡◌, ◌==◌, false, option_map, position, true};
 ghost use Rattle.std.specs.List.{list_all};
 ghost use Rattle.cs_table.specs.Text.{after, front, is_digit};
-ghost use Rattle.cs_command.specs.RunParts.{before_percent, behind_call, call_text, closes, count_of};
+ghost use Rattle.cs_command.specs.RunParts.{before_percent, behind_call, call_text, count_of};
 ghost use Rattle.cs_command.specs.RunParts.{goes_on, is_inner, is_run_parts, is_sign, is_unsigned, may_begin};
-ghost use Rattle.cs_command.specs.RunParts.{run_by, run_parts, seen, turns, without_number, words_of};
+ghost use Rattle.cs_command.specs.RunParts.{run_by, run_parts, seen, turns, words_of};
 
 use crate::call::Call;
+use crate::words::{Class, split_front};
 use cs_place::split_last_word;
 use cs_table::text::{is_blank, skip_blanks, word};
 
 /// What a command runs by run-parts(8).
-#[derive(Clone, Copy, Debug, PartialEq, Eq)]
+#[derive(Clone, Copy, PartialEq, Eq)]
 pub enum RunParts<'c> {
     /// Nothing.
     Absent,
@@ -29,40 +30,16 @@ pub enum RunParts<'c> {
 const NAME: &[u8] = b"run-parts";
 
 /// Whether the byte ends the words of a program, or turns its input or output.
-fn is_sign(byte: u8) -> bool
+pub(crate) fn is_sign(byte: u8) -> bool
     ensures { result ≡ is_sign byte }
 {
     b";&|()<>".as_slice().contains(&byte)
 }
 
-fn is_inner(byte: u8) -> bool
+pub(crate) fn is_inner(byte: u8) -> bool
     ensures { result ≡ is_inner byte }
 {
     !is_blank(byte) && !is_sign(byte)
-}
-
-/// The word at the front, and what stands behind it.
-fn inner_word(text: &[u8]) -> (&[u8], &[u8])
-    ensures word { result.0.now ≡ front is_inner text.now }
-    ensures rest { result.1.now ≡ after is_inner text.now }
-{
-    let mut len = 0;
-    while len < text.len() && is_inner(text[len]) {
-        len += 1;
-    }
-    text.split_at(len)
-}
-
-/// What stands in front of the first sign, and from there on.
-fn split_at_sign(text: &[u8]) -> (&[u8], &[u8])
-    ensures word { result.0.now ≡ front is_unsigned text.now }
-    ensures rest { result.1.now ≡ after is_unsigned text.now }
-{
-    let mut len = 0;
-    while len < text.len() && !is_sign(text[len]) {
-        len += 1;
-    }
-    text.split_at(len)
 }
 
 /// Whether the word is `run-parts`, or a path to it.
@@ -73,14 +50,6 @@ fn is_run_parts(word: &[u8]) -> bool
     word == NAME || word.ends_with(b"/run-parts".as_slice())
 }
 
-/// Whether the word at the front is run-parts.
-fn begins_with_call(text: &[u8]) -> bool
-    ensures { result ≡ is_run_parts (front is_inner text.now) }
-{
-    let (word, _) = inner_word(text);
-    is_run_parts(word)
-}
-
 /// What stands behind the first word of a text that is run-parts.
 #[tactic(auto, unfolding(crate::specs::RunParts::behind_call))]
 fn behind_call(text: &[u8]) -> Option<&[u8]>
@@ -89,9 +58,11 @@ fn behind_call(text: &[u8]) -> Option<&[u8]>
     let mut begins = true;
     let mut rest = text;
     while let [first, others @ ..] = rest {
-        if begins && begins_with_call(rest) {
-            let (_, behind) = inner_word(rest);
-            return Some(behind);
+        if begins {
+            let (word, behind) = split_front(Class::Inner, rest);
+            if is_run_parts(word) {
+                return Some(behind);
+            }
         }
         begins = !is_inner(*first);
         rest = others;
@@ -115,14 +86,6 @@ fn count_of(text: &[u8]) -> usize
     count
 }
 
-/// Whether the first word is `}`.
-fn closes(text: &[u8]) -> bool
-    ensures { result ≡ closes text.now }
-{
-    let (word, _) = inner_word(text);
-    word == b"}".as_slice()
-}
-
 /// Whether a program may begin behind the byte, where one may begin in front of it or not.
 fn may_begin(may: bool, turned: bool, byte: u8) -> bool
     ensures { result ≡ may_begin may turned byte }
@@ -140,7 +103,8 @@ fn goes_on(text: &[u8]) -> bool
     let mut rest = text;
     while let [first, others @ ..] = rest {
         if is_inner(*first) {
-            if may && !closes(rest) {
+            let (word, _) = split_front(Class::Inner, rest);
+            if may && word != b"}".as_slice() {
                 return true;
             }
             may = false;
@@ -191,7 +155,7 @@ fn turns(text: &[u8]) -> bool
 fn call_text(text: &[u8]) -> &[u8]
     ensures { result.now ≡ call_text text.now }
 {
-    let (words, behind) = split_at_sign(text);
+    let (words, behind) = split_front(Class::Unsigned, text);
     let (others, last) = split_last_word(words);
     if turns(behind) && are_digits(last) {
         others
@@ -234,7 +198,7 @@ pub fn run_parts(command: &[u8]) -> RunParts<'_>
     if count > 1 {
         return RunParts::Unread("run-parts stands in it in a way that isn't read");
     }
-    let (_, others) = split_at_sign(behind);
+    let (_, others) = split_front(Class::Unsigned, behind);
     if goes_on(others) {
         return RunParts::Unread("run-parts isn't the last program in it");
     }

@@ -1,6 +1,5 @@
 //! How long a command may run at most, as timeout(1) ends it.
-ghost use Rattle.std.specs.Prelude.{◌≡◌, ◌==◌, option_map};
-ghost use Rattle.std.specs.List.{list_any};
+ghost use Rattle.std.specs.Prelude.{◌≡◌, option_map};
 ghost use Rattle.cs_command.specs.Timeouts.{asked_for, behind_signal, kill_at, limit_at, limit_for};
 ghost use Rattle.cs_command.specs.Timeouts.{limit_in, limit_of, program_of, run_in, time_limit};
 
@@ -77,19 +76,13 @@ fn limit_at(waits: bool, text: &[u8]) -> Option<u64>
     }
 }
 
-fn has_percent(text: &[u8]) -> bool
-    ensures { result ≡ list_any (λ b. b == 37) text.now }
-{
-    text.contains(&b'%')
-}
-
 /// Whether the run waits for its lock, and what stands behind the lock's file; or what stands behind
 /// settings, guards and nice(1).
 #[tactic(auto, unfolding(crate::specs::Timeouts::run_in))]
 fn run_in(text: &[u8]) -> Option<(bool, &[u8])>
     ensures { option_map (λ run. (run.0, run.1.now)) result ≡ run_in text.now }
 {
-    if has_percent(text) {
+    if text.contains(&b'%') {
         return None;
     }
     if !names_lock(text) {

@@ -3,9 +3,10 @@ ghost use Rattle.std.specs.Prelude.{◌≡◌, option_map};
 ghost use Rattle.std.specs.List.{list_all};
 ghost use Rattle.cs_table.specs.Text.{after, front};
 ghost use Rattle.cs_command.specs.Words.{behind_all, behind_one, behind_plain, behind_this, behind_word};
-ghost use Rattle.cs_command.specs.Words.{first_word, is_name_byte, is_one_of, is_plain_byte};
+ghost use Rattle.cs_command.specs.Words.{first_word, holds, is_name_byte, is_one_of, is_plain_byte};
 ghost use Rattle.cs_command.specs.Words.{is_quoted_byte, quoted_at, word_at};
 
+use crate::running::{is_inner, is_sign};
 use cs_table::text::{is_blank, skip_blanks, word};
 
 /// Whether the word is one of those in the list, which have a blank between them.
@@ -80,13 +81,35 @@ fn is_quoted_byte(byte: u8) -> bool
     is_plain_byte(byte) || is_blank(byte)
 }
 
-/// The bytes at the front that stand for themselves between quotes, and what stands behind them.
-fn quoted(text: &[u8]) -> (&[u8], &[u8])
-    ensures word { result.0.now ≡ front is_quoted_byte text.now }
-    ensures rest { result.1.now ≡ after is_quoted_byte text.now }
+/// Bytes that stand together: in a word, up to a sign, between quotes, or in a name.
+#[derive(Clone, Copy)]
+pub(crate) enum Class {
+    Inner,
+    Unsigned,
+    Quoted,
+    Name,
+}
+
+impl Class {
+    fn holds(self, byte: u8) -> bool
+        ensures { result ≡ holds self byte }
+    {
+        match self {
+            Class::Inner => is_inner(byte),
+            Class::Unsigned => !is_sign(byte),
+            Class::Quoted => is_quoted_byte(byte),
+            Class::Name => is_name_byte(byte),
+        }
+    }
+}
+
+/// The bytes of the class at the front, and what stands behind them.
+pub(crate) fn split_front(class: Class, text: &[u8]) -> (&[u8], &[u8])
+    ensures word { result.0.now ≡ front (holds class) text.now }
+    ensures rest { result.1.now ≡ after (holds class) text.now }
 {
     let mut len = 0;
-    while len < text.len() && is_quoted_byte(text[len]) {
+    while len < text.len() && class.holds(text[len]) {
         len += 1;
     }
     text.split_at(len)
@@ -96,7 +119,7 @@ fn quoted(text: &[u8]) -> (&[u8], &[u8])
 fn quoted_at(quote: u8, text: &[u8]) -> Option<(&[u8], &[u8])>
     ensures { option_map (λ word. (word.0.now, word.1.now)) result ≡ quoted_at quote text.now }
 {
-    let (word, rest) = quoted(text);
+    let (word, rest) = split_front(Class::Quoted, text);
     if first_word(rest) == [quote].as_slice() {
         Some((word, behind_word(rest)))
     } else {

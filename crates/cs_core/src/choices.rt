@@ -1,4 +1,4 @@
-ghost use Rattle.std.specs.Prelude.{◌≡◌, ◌≤◌, ◌++◌, IfOk, OnOk, fold, length, map};
+ghost use Rattle.std.specs.Prelude.{◌≡◌, ◌≤◌, ◌++◌, IfOk, OnOk, length, map};
 ghost use Rattle.std.specs.List.{insert};
 ghost use Rattle.cs_core.specs.Choices.{by_name, candidates, choices, is_before};
 ghost use Rattle.cs_core.specs.Standing.{names};

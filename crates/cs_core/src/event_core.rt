@@ -23,7 +23,7 @@ use std::marker::Model;
 
 /// A plan, and the state after the events of a history: the minute, up or down, the pending jobs,
 /// the waiting and running runs, the stamps and the open pass.
-#[derive(Debug, Drop)]
+#[derive(Drop)]
 pub struct Core {
     pub(crate) rules: Rules,
     pub(crate) minute: Minute,

@@ -1,8 +1,7 @@
-ghost use Rattle.std.specs.Prelude.{◌≡◌, None, not};
+ghost use Rattle.std.specs.Prelude.{◌≡◌, None};
 ghost use Rattle.std.specs.List.{list_any};
 ghost use Rattle.cs_plan.specs.Plan.{as_plan};
 ghost use Rattle.cs_history.specs.History.{is_free, same_run};
-ghost use Rattle.cs_history.specs.Plan.{is_cron};
 ghost use Rattle.cs_history.specs.Step.{is_catchable, is_turn, is_settled, refusal};
 ghost use Rattle.cs_history.specs.declared.event.Event.TheVariants as event;
 

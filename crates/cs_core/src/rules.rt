@@ -1,10 +1,10 @@
-ghost use Rattle.std.specs.Prelude.{◌≡◌, ◌<◌, ◌≤◌, ◌-◌, ◌%◌, ◌/◌, ℕ, length, [], get_or, None, Some, IfOk};
+ghost use Rattle.std.specs.Prelude.{◌≡◌, ◌<◌, ◌≤◌, ◌-◌, ◌%◌, ◌/◌, ℕ, length, [], None, Some, IfOk};
 ghost use Rattle.std.specs.List.{insert};
 ghost use Rattle.cs_core.specs.Standing.{is_job, owed_beside};
 ghost use Rattle.cs_crontab.specs.declared.limits.TheConstants.{MAX_COMMANDS};
 ghost use Rattle.cs_civil.specs.Calendar.{kind};
-ghost use Rattle.cs_plan.specs.Plan.{as_plan, command_of, crons, is_due, line_of};
-ghost use Rattle.cs_history.specs.Plan.{by_delay, due_at, is_cron, is_pass_minute, is_sooner, placed_below, shares_in, takes};
+ghost use Rattle.cs_plan.specs.Plan.{as_plan, crons, is_due};
+ghost use Rattle.cs_history.specs.Plan.{by_delay, due_at, is_cron, is_pass_minute, is_sooner, shares_in, takes};
 ghost use Rattle.cs_history.specs.Lists.{placed};
 ghost use Rattle.cs_locks.specs.Locks.{hold_in, hold_of};
 
@@ -20,7 +20,7 @@ use std::alloc::{AllocError, Global};
 use std::marker::Model;
 
 /// The plan that a core runs, and its anacron jobs by delay, then line.
-#[derive(Debug, Drop)]
+#[derive(Drop)]
 pub(crate) struct Rules {
     plan: Plan,
     order: ArrayVec<u16, 64>,

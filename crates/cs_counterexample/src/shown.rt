@@ -6,7 +6,7 @@ use std::alloc::AllocError;
 use thiserror::Error;
 
 /// What a script breaks although each of its runs ends within its declared time.
-#[derive(Clone, Copy, Debug, PartialEq, Eq)]
+#[derive(Clone, Copy, PartialEq, Eq)]
 pub enum Shown {
     /// Two overlapping runs of an exclusive group, the earlier first, that don't share its lock.
     Together(Run, Run),

@@ -16,7 +16,7 @@ use std::marker::Model;
 /// and found no run that had passed its declared time.
 ///
 /// Contracts see the plan, the state after the events, and what was broken first.
-#[derive(Debug, Drop)]
+#[derive(Drop)]
 pub struct Trial {
     core: Core,
     // No running run is over its declared time before this minute.

@@ -2,8 +2,7 @@ ghost use Rattle.std.specs.Prelude.{◌≡◌, ◌<◌, ◌≤◌, ◌+◌, ◌^
 ghost use Rattle.std.specs.List.{slice_split};
 ghost use Rattle.std.specs.Option.{option_map};
 ghost use Rattle.cs_schedule.specs.Times.{IsWithin};
-ghost use Rattle.cs_crontab.specs.Format.{place_of, counted, is_comma};
-ghost use Rattle.cs_table.specs.Text.{begins_with};
+ghost use Rattle.cs_crontab.specs.Format.{place_of, is_comma};
 ghost use Rattle.cs_crontab.specs.Reading.{named, number_at, step_at, cut_step, every, end_at, range_at, numbers_at, item_at, items_behind, item_of, list_of, field_of, field_at};
 ghost use Rattle.cs_table.specs.Wrong.{Gives, marked, moved};
 ghost use Rattle.cs_crontab.specs.Grammar.{IsItem};

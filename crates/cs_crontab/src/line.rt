@@ -1,5 +1,4 @@
-ghost use Rattle.std.specs.Prelude.{◌≡◌, ◌==◌, ◌+◌, ◌<◌, ◌^◌, length, drop, IfOk, IfErr};
-ghost use Rattle.std.specs.List.{list_any};
+ghost use Rattle.std.specs.Prelude.{◌≡◌, ◌==◌, ◌+◌, ◌<◌, ◌^◌, length, IfOk, IfErr};
 ghost use Rattle.cs_table.specs.Setting.{begins_setting};
 ghost use Rattle.cs_crontab.specs.Reading.{schedule_at, when_of, commanded, word_line, entry_of, line_of};
 ghost use Rattle.cs_table.specs.Wrong.{Gives, IsWithin, marked};
@@ -17,7 +16,7 @@ use cs_table::text::{has_nul, skip_blanks, word};
 use cs_table::{MAX_LINE, Wrong, marked};
 
 /// The content of a line.
-#[derive(Debug, Drop)]
+#[derive(Drop)]
 pub enum Entry<'a> {
     /// Nothing: it is empty, blank or a comment.
     Nothing,

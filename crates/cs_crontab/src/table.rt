@@ -10,7 +10,7 @@ use std::alloc::{AllocError, Global};
 use std::marker::Model;
 
 /// When a command starts.
-#[derive(Debug, Drop)]
+#[derive(Drop)]
 pub enum When {
     /// At the minutes that match five time and date fields.
     At(Schedule),
@@ -30,7 +30,7 @@ impl When {
 }
 
 /// A command line of a crontab.
-#[derive(Debug, Drop)]
+#[derive(Drop)]
 pub struct Line {
     place: u32,
     time: When,
@@ -118,7 +118,7 @@ fn keep_others(lines: Vec<Line>, numbers: &[u32]) -> Vec<Line>
 }
 
 /// A crontab: its settings, and at most [`MAX_COMMANDS`](crate::MAX_COMMANDS) commands, by line.
-#[derive(Debug, Drop)]
+#[derive(Drop)]
 pub struct Crontab {
     variables: Sequence<Setting>,
     commands: Sequence<Line>,

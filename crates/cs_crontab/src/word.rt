@@ -1,4 +1,4 @@
-ghost use Rattle.std.specs.Prelude.{◌≡◌, ◌≤◌, All};
+ghost use Rattle.std.specs.Prelude.{◌≡◌, ◌≤◌};
 ghost use Rattle.cs_schedule.specs.declared.part.Part.TheVariants as part;
 ghost use Rattle.cs_schedule.specs.Part.{first_of};
 ghost use Rattle.cs_schedule.specs.Times.{IsWithin, last_held};

@@ -4,7 +4,7 @@ use arrayvec::ArrayVec;
 use cs_keep::Kept;
 
 /// Why a daemon ended.
-#[derive(Clone, Copy, Debug, PartialEq, Eq)]
+#[derive(Clone, Copy, PartialEq, Eq)]
 pub enum Cause {
     /// The clock stopped.
     Stopped,

@@ -4,7 +4,7 @@ ghost use Rattle.cs_daytree.specs.Tree.{class_in, depth, greatest_class, has, nu
 use cs_civil::{DayKind, Sequence};
 
 /// The part of a day's kind that a split looks at.
-#[derive(Clone, Copy, Debug, PartialEq, Eq, Hash)]
+#[derive(Clone, Copy, PartialEq, Eq, Hash)]
 pub enum KindPart {
     /// The month, from 1 to 12.
     Month,
@@ -19,7 +19,7 @@ pub enum KindPart {
 /// A split looks at one part of the kind: `inside` decides the kinds whose number is among its
 /// values, `outside` the others. Other splits than [`splits_fit`](DayTree::splits_fit) accepts are
 /// possible; each method says what they mean.
-#[derive(Debug, Drop)]
+#[derive(Drop)]
 pub enum DayTree {
     /// The class of all kinds.
     Leaf(u32),

@@ -19,7 +19,7 @@ use std::marker::Model;
 /// What an operator declares: for each job its longest time, weight, group and mode, and those of
 /// jobs without an entry; the lines that are left out; the groups, the capacity, the catch-up hours,
 /// the pass minute and the offset.
-#[derive(Debug, Drop)]
+#[derive(Drop)]
 pub struct Declarations {
     entries: Entries,
 }

@@ -4,7 +4,7 @@ use cs_history::Mode;
 
 /// How an entry names a line of the crontab: by its number, by its command, or by both; a schedule
 /// that is told beside them is the line's.
-#[derive(Debug, Drop)]
+#[derive(Drop)]
 pub struct LineName {
     /// The number of the line, counted from 1 over all lines of the table.
     pub number: Option<i128>,
@@ -15,7 +15,7 @@ pub struct LineName {
 }
 
 /// An entry of `groups`.
-#[derive(Debug, Drop)]
+#[derive(Drop)]
 pub struct GroupEntry {
     /// The name of the group.
     pub name: Bytes,
@@ -24,7 +24,7 @@ pub struct GroupEntry {
 }
 
 /// An entry of `cron`.
-#[derive(Debug, Drop)]
+#[derive(Drop)]
 pub struct CronEntry {
     /// The line whose job it declares.
     pub name: LineName,
@@ -44,7 +44,7 @@ pub struct CronEntry {
 
 /// An entry of `parts`: one of the programs that a command runs one after the other, as run-parts(8)
 /// does.
-#[derive(Debug, Drop)]
+#[derive(Drop)]
 pub struct PartEntry {
     /// The name of the program.
     pub name: Bytes,
@@ -53,7 +53,7 @@ pub struct PartEntry {
 }
 
 /// An entry of `anacron`.
-#[derive(Debug, Drop)]
+#[derive(Drop)]
 pub struct AnacronEntry {
     /// The identifier of the job that it declares.
     pub identifier: Bytes,
@@ -70,7 +70,7 @@ pub struct AnacronEntry {
 }
 
 /// What is declared of each job without an entry.
-#[derive(Debug, PartialEq, Eq, Drop)]
+#[derive(PartialEq, Eq, Drop)]
 pub struct DefaultEntry {
     /// The longest time of a run in minutes.
     pub max: i128,
@@ -79,7 +79,7 @@ pub struct DefaultEntry {
 }
 
 /// Declarations by their shape alone: whole numbers of any size.
-#[derive(Debug, Drop)]
+#[derive(Drop)]
 pub struct Entries {
     /// The most that running jobs may weigh together.
     pub capacity: i128,

@@ -1,8 +1,7 @@
-ghost use Rattle.std.specs.Prelude.{◌≡◌, ◌≤◌, ◌++◌, All, length, option_map, None, IfOk};
+ghost use Rattle.std.specs.Prelude.{◌≡◌, ◌≤◌, ◌++◌, option_map, None, IfOk};
 ghost use Rattle.std.specs.Prelude.{unsigned_abs};
 ghost use Rattle.std.specs.List.{find};
 ghost use Rattle.cs_decl.specs.Faults.{first_fault};
-ghost use Rattle.cs_plan.specs.Answers.{Fault};
 ghost use Rattle.cs_decl.specs.Meaning.{IsValid};
 ghost use Rattle.cs_plan.specs.Answers.{Answers, unless};
 ghost use Rattle.cs_decl.specs.Join.{undeclared, rest, lines_left_out, declared_hours};

@@ -1,5 +1,5 @@
 //! The lines that entries name.
-ghost use Rattle.std.specs.Prelude.{◌≡◌, ◌&&◌, not, map, option_map, position, IfOk};
+ghost use Rattle.std.specs.Prelude.{◌≡◌, ◌&&◌, option_map, position, IfOk};
 ghost use Rattle.std.specs.List.{find, list_any, count_by};
 ghost use Rattle.cs_decl.specs.Join.{is_named, has_no_line, is_unlike, has_other_command};
 ghost use Rattle.cs_decl.specs.Join.{is_ambiguous, number_of, cron_numbers, left_out_numbers};

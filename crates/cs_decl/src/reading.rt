@@ -1,10 +1,10 @@
-ghost use Rattle.std.specs.Prelude.{◌≡◌, List, [], Some, None, Ok, map, option_map};
-ghost use Rattle.std.specs.Prelude.{option_and_then, string_bytes, pos, codes, is_some, ◌||◌};
+ghost use Rattle.std.specs.Prelude.{◌≡◌, [], Some, None, Ok, map};
+ghost use Rattle.std.specs.Prelude.{pos, codes, is_some, ◌||◌};
 ghost use Rattle.std.specs.Prelude.{false};
 ghost use Rattle.serde_json.specs.View.{view};
 ghost use Rattle.serde_json.specs.Find.{get};
 ghost use Rattle.cs_json.specs.Gives.{Gives};
-ghost use Rattle.cs_json.specs.Shape.{check, text, whole_number, list_as, member_as};
+ghost use Rattle.cs_json.specs.Shape.{text, whole_number, list_as, member_as};
 ghost use Rattle.cs_json.specs.Shape.{member_or_default, member_or_none, object_with};
 ghost use Rattle.cs_history.specs.declared.mode.Mode.TheVariants.{Plain};
 ghost use Rattle.cs_decl.specs.Shape.{mode_named, mode_of, note_of, group_of, line_name_of};
@@ -338,7 +338,7 @@ fn whole_object(value: &Value) -> Result<(), Misread>
 }
 
 /// What is declared of all jobs together.
-#[derive(Debug, Drop)]
+#[derive(Drop)]
 struct Terms {
     capacity: i128,
     offset: i128,

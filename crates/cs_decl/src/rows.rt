@@ -1,8 +1,7 @@
 //! The table of faults, row after row.
-ghost use Rattle.std.specs.Prelude.{◌≡◌, ◌++◌, IfOk, Some, position, map, option_map, bytes_eq};
-ghost use Rattle.std.specs.List.{list_any};
+ghost use Rattle.std.specs.Prelude.{◌≡◌, ◌++◌, IfOk, Some, position};
 ghost use Rattle.cs_decl.specs.Faults.{is_within, is_bad_offset, is_bad_max, is_bad_weight};
-ghost use Rattle.cs_decl.specs.Faults.{is_bad_default, needs_group, is_unlisted, are_bad_hours};
+ghost use Rattle.cs_decl.specs.Faults.{is_bad_default, needs_group, are_bad_hours};
 ghost use Rattle.cs_decl.specs.Faults.{is_bad_pass, first_fault, twice_declared, bad_numbers};
 ghost use Rattle.cs_decl.specs.Faults.{bad_groups, bad_parts, bad_times, faults_of};
 

@@ -1,8 +1,8 @@
 //! The jobs that entries declare.
-ghost use Rattle.std.specs.Prelude.{◌≡◌, ◌<◌, ◌≤◌, ◌^◌, ◌++◌, ℕ, map, length, unsigned_abs, IfOk};
+ghost use Rattle.std.specs.Prelude.{◌≡◌, ◌<◌, ◌≤◌, ◌^◌, ◌++◌, map, length, unsigned_abs, IfOk};
 ghost use Rattle.std.specs.Prelude.{OnOk, IfSome, Some, option_map, position, bytes_eq};
 ghost use Rattle.std.specs.List.{find};
-ghost use Rattle.cs_plan.specs.declared.limits.TheConstants.{MAX_GROUPS, MAX_OFFSET};
+ghost use Rattle.cs_plan.specs.declared.limits.TheConstants.{MAX_GROUPS};
 ghost use Rattle.cs_plan.specs.Job.{IsPossible};
 ghost use Rattle.cs_decl.specs.Meaning.{IsValid};
 ghost use Rattle.cs_decl.specs.Join.{is_named, is_of_job, group_place, default_terms, cron_terms};

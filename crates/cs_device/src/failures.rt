@@ -7,7 +7,7 @@ use std::marker::Model;
 /// How often a device has failed, up to the greatest number of 64 bits.
 ///
 /// A device may report a failure only if its count rises. Each says what it does on one more.
-#[derive(Clone, Copy, Debug, PartialEq, Eq)]
+#[derive(Clone, Copy, PartialEq, Eq)]
 pub struct Failures {
     count: u64,
 }

@@ -2,7 +2,7 @@
 use cs_history::Run;
 
 /// A point of a run.
-#[derive(Clone, Copy, Debug, PartialEq, Eq)]
+#[derive(Clone, Copy, PartialEq, Eq)]
 pub enum Point {
     /// Its command has not started.
     Before,

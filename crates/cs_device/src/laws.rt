@@ -1,7 +1,7 @@
 ghost use Rattle.std.specs.Prelude.{◌≡◌, ◌⊎◌, ◌≤◌, ◌<◌, ◌↔◌, ℕ};
 ghost use Rattle.cs_device.specs.Rise.{risen_by, top_by};
 ghost use Rattle.cs_device.specs.declared.clock.Tick.{Tick};
-ghost use Rattle.cs_device.specs.declared.clock.Tick.TheVariants.{At, Stop, Failed};
+ghost use Rattle.cs_device.specs.declared.clock.Tick.TheVariants.{At};
 
 /// Lemma. The risen minutes count the answers that are later than all before.
 pub fn risen_minutes()

@@ -5,7 +5,7 @@ ghost use Rattle.cs_device.specs.Asked.{asked};
 use cs_civil::Bytes;
 
 /// How a run ended.
-#[derive(Clone, Copy, Debug, PartialEq, Eq)]
+#[derive(Clone, Copy, PartialEq, Eq)]
 pub enum Outcome {
     /// It exited with this status, from 0 to 255 on this machine.
     Exited(i32),

@@ -7,7 +7,7 @@ use crate::failures::Failures;
 use std::marker::Model;
 
 /// A clock's answers so far. Each goes through [`tell`](Told::tell).
-#[derive(Debug, Drop)]
+#[derive(Drop)]
 pub struct Told {
     answer: Option<Tick>,
     faults: Failures,

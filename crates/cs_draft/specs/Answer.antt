@@ -7,7 +7,7 @@ use Rattle.cs_place.specs.declared.places.Place.{Place}
 use Rattle.cs_plan.specs.Plain.{is_possible_max}
 use Rattle.cs_decl.specs.declared.entries.Entries.{Entries}
 use Rattle.cs_draft.specs.Draft.{IsUpdate, Warn, nothing}
-use Rattle.cs_args.specs.CommandLine.{AskedDraft}
+use Rattle.cs_args.specs.Asked.{AskedDraft}
 use Rattle.cs_args.specs.declared.question.WordFault.TheVariants.{BadMax}
 use Rattle.cs_io.specs.Files.{Failed}
 use Rattle.cs_files.specs.Reads.{AndThen, Answered, GivesSome, PlacesIn, ReadsEntries, ReadsTables}

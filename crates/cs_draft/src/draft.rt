@@ -14,7 +14,7 @@ use cs_plan::{MAX_CAPACITY, is_possible_max};
 use std::alloc::{AllocError, Global};
 
 /// Declarations to begin from, and what an operator has to know of them.
-#[derive(Debug, Drop)]
+#[derive(Drop)]
 pub struct Draft {
     /// The declarations: JSON, with one entry a line.
     pub text: Bytes,
@@ -25,7 +25,7 @@ pub struct Draft {
 }
 
 /// What is answered where declarations are to be drawn up.
-#[derive(Debug, Drop)]
+#[derive(Drop)]
 pub enum Drawing {
     /// The longest time isn't from 1 to [`MAX_MINUTES`](cs_plan::MAX_MINUTES) minutes.
     BadMax,

@@ -11,7 +11,7 @@ const MOST_EDITS: usize = 3;
 const LONGEST_NAME: usize = 40;
 
 /// The best guess so far: the fewest edits that lead to a name, and the name.
-#[derive(Clone, Copy, Debug)]
+#[derive(Clone, Copy)]
 struct Guess {
     edits: usize,
     name: Option<&'static str>,

@@ -9,7 +9,7 @@ use crate::{
 };
 
 /// A kind of input or answer. Each has names of its own; some of them other kinds have too.
-#[derive(Clone, Copy, Debug)]
+#[derive(Clone, Copy)]
 pub(crate) enum Kind {
     Crontab,
     System,

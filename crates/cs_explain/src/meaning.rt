@@ -3,7 +3,7 @@ ghost use Rattle.std.specs.Prelude.{◌≡◌};
 ghost use Rattle.cs_explain.specs.Odd.{is_alike};
 
 /// A name that the program prints of one kind of input, and what it means.
-#[derive(Clone, Copy, Debug)]
+#[derive(Clone, Copy)]
 pub(crate) struct Meaning {
     /// The name, as `OutOfField`.
     pub(crate) name: &'static str,

@@ -2,8 +2,8 @@
 use Rattle.std.specs.Prelude.{◌≡◌, ◌++◌, List, [], ◌∷◌, Option, Some, None}
 use Rattle.clap.specs.Words.{Text}
 use Rattle.cs_io.specs.Files.{AreReadInTurn, Reads}
-use Rattle.cs_args.specs.CommandLine.{AskedChart, AskedCheck, AskedDraft, AskedGather, AskedJudge}
-use Rattle.cs_args.specs.CommandLine.{AskedLearn, AskedLint, AskedReplay}
+use Rattle.cs_args.specs.Asked.{AskedChart, AskedCheck, AskedDraft, AskedGather, AskedJudge}
+use Rattle.cs_args.specs.Asked.{AskedLearn, AskedLint, AskedReplay}
 
 -- the path of a file that may be left out
 abbrev pub some_path : Option Text → List Text

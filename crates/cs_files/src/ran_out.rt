@@ -5,7 +5,7 @@ use cs_civil::Bytes;
 use std::alloc::AllocError;
 
 /// Memory ran out, which ends a call.
-#[derive(Debug, Drop)]
+#[derive(Drop)]
 pub struct RanOut {
     /// What is to be warned of, once that is known: as soon as both tables were read.
     pub warnings: Option<Bytes>,

@@ -4,14 +4,13 @@ ghost use Rattle.std.specs.List.{list_all, list_any};
 ghost use Rattle.cs_table.specs.declared.limits.TheConstants.{MAX_TABLE};
 ghost use Rattle.cs_anacrontab.specs.Faults.{Means as MeansJobs};
 ghost use Rattle.cs_crontab.specs.Faults.{IsCrontab};
-ghost use Rattle.cs_decl.specs.Meaning.{declared_by};
 ghost use Rattle.cs_io.specs.Files.{AreReadInTurn, IsFresh, IsReadAlone};
 ghost use Rattle.cs_files.specs.Reads.{HoldsJobs, IsRead, IsUnreadAt, IsUnreadWhole, MeansIt};
 ghost use Rattle.cs_files.specs.Reads.{FittingIn, MeansTable, PlacesIn, ReadsAs, TextIn, are_named, is_letter};
-ghost use Rattle.cs_files.specs.Reads.{ReadsDeclared, ReadsEntries, ReadsFitting, ReadsJobs, ReadsTables};
+ghost use Rattle.cs_files.specs.Reads.{ReadsDeclared, ReadsFitting, ReadsJobs, ReadsTables};
 ghost use Rattle.cs_files.specs.Reads.{without_rest};
 ghost use Rattle.cs_files.specs.Turn.{some_path, table_paths};
-ghost use Rattle.cs_files.specs.Trouble.{CameTo, InAnacrontab, InCrontab, InDeclarations, IsHonestOf};
+ghost use Rattle.cs_files.specs.Trouble.{CameTo, InAnacrontab, InCrontab, IsHonestOf};
 ghost use Rattle.cs_files.specs.Trouble.{IsOfContent};
 
 use crate::fault::Fault;

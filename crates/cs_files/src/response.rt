@@ -10,7 +10,7 @@ use std::alloc::{AllocError, Global};
 use std::marker::Model;
 
 /// How a call of the program ends.
-#[derive(Clone, Copy, Debug, PartialEq, Eq)]
+#[derive(Clone, Copy, PartialEq, Eq)]
 pub enum Status {
     /// What is asked was done, or help was shown.
     Done,
@@ -46,7 +46,7 @@ impl Status {
 }
 
 /// A status, what is written to standard output, and what to standard error.
-#[derive(Debug, Drop)]
+#[derive(Drop)]
 pub struct Response {
     ends: Status,
     shown: Bytes,

@@ -17,7 +17,7 @@ use Rattle.cs_gather.specs.declared.programs.Parts.{Parts}
 use Rattle.cs_io.specs.Files.{AreReadInTurn, Failed, IsFresh, IsUpTo, Reads}
 use Rattle.cs_io.specs.Folders.{Tree}
 use Rattle.cs_io.specs.declared.reason.Reason.{Reason}
-use Rattle.cs_args.specs.CommandLine.{AskedGather}
+use Rattle.cs_args.specs.Asked.{AskedGather}
 use Rattle.cs_files.specs.Reads.{IsRead, IsUnreadAt}
 use Rattle.cs_files.specs.Response.{Ending}
 use Rattle.cs_files.specs.Trouble.{InGathered, IsHonest, IsUnread, TellsPath, Trouble, Unread, ends, gathered_trouble, trouble, trouble_status}

@@ -18,7 +18,7 @@ use Rattle.cs_io.specs.Files.{Failed}
 use Rattle.cs_io.specs.Folders.{Tree}
 use Rattle.cs_io.specs.declared.folders.FileKind.{FileKind}
 use Rattle.cs_io.specs.declared.folders.FileKind.TheVariants.{Program}
-use Rattle.cs_args.specs.CommandLine.{AskedGather}
+use Rattle.cs_args.specs.Asked.{AskedGather}
 use Rattle.cs_files.specs.Response.{Ending, complaint}
 use Rattle.cs_files.specs.Trouble.{InGathered, TellsPath, Trouble, ends}
 use Rattle.cs_gather.specs.Tables.{AreFound, AreNamed, Given, IsFrontAsked}

@@ -7,7 +7,7 @@ use Rattle.cs_io.specs.Folders.{Tree}
 use Rattle.cs_io.specs.declared.folders.FileKind.{FileKind}
 use Rattle.cs_io.specs.declared.folders.FileKind.TheVariants.{Program, Regular}
 use Rattle.cs_place.specs.Places.{is_part_name}
-use Rattle.cs_args.specs.CommandLine.{AskedGather}
+use Rattle.cs_args.specs.Asked.{AskedGather}
 
 -- a table to gather: its path, and whose it is, unless its lines name users
 pub record Given : Type 0 where

@@ -3,7 +3,7 @@ ghost use Rattle.std.specs.Prelude.{◌≡◌, ◌⊎◌, ◌++◌, [], ◌∷�
 ghost use Rattle.std.specs.Str.{IsUtf8};
 ghost use Rattle.cs_files.specs.Trouble.{ends};
 ghost use Rattle.cs_place.specs.Places.{is_part_name};
-ghost use Rattle.cs_gather.specs.Tables.{IsBelow, IsFile, IsFileAt, IsUserName, system_table};
+ghost use Rattle.cs_gather.specs.Tables.{IsBelow, IsFile, IsFileAt, system_table};
 ghost use Rattle.cs_gather.specs.Listing.{AreAmong, FindsAllOn, FindsNamed, HasFailed, HasName, IsUnlisted, given_in, place_of, unlisted_trouble};
 
 use crate::given::Given;
@@ -83,18 +83,6 @@ pub(crate) fn table_name(name: &[u8]) -> Result<&str, &'static str>
     Err("its name holds other signs than letters, digits, _ and -")
 }
 
-/// The name of a user's table, or why it is none.
-fn user_name(name: &[u8]) -> Result<&str, &'static str>
-    ensures name { IfOk result (λ text. text.now ≡ name.now) }
-    ensures is { OnOk result (IsUserName name.now) }
-    ensures refused { OnErr result (¬ (IsUserName name.now)) }
-{
-    if name.starts_with(b".".as_slice()) {
-        return Err("its name begins with a dot");
-    }
-    text_of(name)
-}
-
 /// A folder of tables below a root folder.
 #[derive(Clone, Copy)]
 pub(crate) enum Shelf {
@@ -123,7 +111,10 @@ impl Shelf {
     {
         match self {
             Shelf::CronD => table_name(name),
-            Shelf::Crontabs => user_name(name),
+            Shelf::Crontabs if name.starts_with(b".".as_slice()) => {
+                Err("its name begins with a dot")
+            }
+            Shelf::Crontabs => text_of(name),
         }
     }
 

@@ -12,7 +12,7 @@ use std::alloc::AllocError;
 pub type GatherFault = TableFault<SystemFault>;
 
 /// Why there is no text.
-#[derive(Clone, Copy, Debug, PartialEq, Eq)]
+#[derive(Clone, Copy, PartialEq, Eq)]
 pub enum TextFault {
     /// The text, read back, does not say what was gathered. No text is known for which this is so.
     NotReadBack,

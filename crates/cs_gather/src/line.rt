@@ -1,4 +1,4 @@
-ghost use Rattle.std.specs.Prelude.{◌≡◌, [], IfOk};
+ghost use Rattle.std.specs.Prelude.{◌≡◌, IfOk};
 ghost use Rattle.cs_gather.specs.Normal.{IsNormal};
 ghost use Rattle.cs_gather.specs.Gathered.{place_comment};
 
@@ -39,7 +39,7 @@ impl Model for GatheredLine {
 }
 
 impl GatheredLine {
-    /// Copies what a table says of a command without parts.
+    /// Copies what a table says of a command, which has parts of these names.
     pub(crate) fn new(
         alloc: Global,
         name: &[u8],
@@ -47,6 +47,7 @@ impl GatheredLine {
         user: &[u8],
         when: &When,
         command: &[u8],
+        parts: Sequence<Bytes>,
     ) -> Result<GatheredLine, AllocError>
         requires { IsNormal when.now }
         ensures { IfOk result (λ line. line ≡ record {
@@ -55,7 +56,7 @@ impl GatheredLine {
           user = user.now;
           when = when.now;
           command = command.now;
-          parts = [];
+          parts = parts;
         }) }
     {
         Ok(GatheredLine {
@@ -64,17 +65,8 @@ impl GatheredLine {
             owner: Bytes::from_slice(alloc, user)?,
             time: copy_when(when),
             text: Bytes::from_slice(alloc, command)?,
-            programs: Sequence::new(alloc),
+            programs: parts,
         })
-    }
-
-    /// The same with parts of these names.
-    pub(crate) fn with_parts(self, names: Sequence<Bytes>) -> GatheredLine
-        ensures { result ≡ record self { parts = names } }
-    {
-        let mut line = self;
-        line.programs = names;
-        line
     }
 
     pub(crate) fn number(&self) -> u32

@@ -7,7 +7,7 @@ use cs_civil::{Bytes, Sequence};
 use std::alloc::{AllocError, Global};
 
 /// The parts that a command of a table runs by run-parts(8).
-#[derive(Debug, Drop)]
+#[derive(Drop)]
 pub struct Parts {
     /// The number of the command's line in its table, from 1.
     pub line: u32,

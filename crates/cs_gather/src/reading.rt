@@ -21,9 +21,10 @@ pub(crate) fn system_lines(
 {
     let mut gathered = Vec::new(alloc);
     for line in lines {
-        let (number, user) = (line.number(), line.user());
-        let command = GatheredLine::new(alloc, name, number, user, line.when(), line.command())?;
-        gathered.push(command.with_parts(names_at(alloc, parts, number)?))?;
+        let number = line.number();
+        let (user, when, command) = (line.user(), line.when(), line.command());
+        let names = names_at(alloc, parts, number)?;
+        gathered.push(GatheredLine::new(alloc, name, number, user, when, command, names)?)?;
     }
     Ok(gathered)
 }
@@ -42,8 +43,9 @@ pub(crate) fn user_lines(
     let mut gathered = Vec::new(alloc);
     for line in lines {
         let number = line.number();
-        let command = GatheredLine::new(alloc, name, number, user, line.when(), line.command())?;
-        gathered.push(command.with_parts(names_at(alloc, parts, number)?))?;
+        let (when, command) = (line.when(), line.command());
+        let names = names_at(alloc, parts, number)?;
+        gathered.push(GatheredLine::new(alloc, name, number, user, when, command, names)?)?;
     }
     Ok(gathered)
 }

@@ -11,7 +11,6 @@ ghost use Rattle.cs_gather.specs.Gather.{IsOverflow};
 use crate::comment::push_place;
 use crate::fault::GatherFault;
 use crate::line::GatheredLine;
-use cs_civil::Bytes;
 use cs_crontab::{Entry, LineFault, read_line};
 use cs_place::{MARK, PART, push_shown};
 use cs_system::SystemFault;
@@ -28,18 +27,6 @@ fn time_text(line: &[u8]) -> &[u8] {
     }
 }
 
-/// Adds the comments of parts. Says whether they are short enough.
-fn push_parts(text: &mut Vec<u8>, names: &[Bytes]) -> Result<bool, AllocError> {
-    let mut is_short = true;
-    for name in names {
-        text.extend_from_slice(PART)?;
-        text.extend_from_slice(name.as_slice())?;
-        text.push(b'\n')?;
-        is_short = is_short && name.len() <= MAX_LINE - PART.len();
-    }
-    Ok(is_short)
-}
-
 /// Adds the place of a command, its parts, and the command. Says whether the text stays short
 /// enough.
 fn push_command(
@@ -51,33 +38,21 @@ fn push_command(
     let comment = gathered.comment(alloc)?;
     text.extend_from_slice(comment.as_slice())?;
     text.push(b'\n')?;
-    let is_short = push_parts(text, gathered.parts())?;
+    let mut is_short = comment.len() <= MAX_LINE;
+    for name in gathered.parts() {
+        text.extend_from_slice(PART)?;
+        text.extend_from_slice(name.as_slice())?;
+        text.push(b'\n')?;
+        is_short = is_short && name.len() <= MAX_LINE - PART.len();
+    }
     text.extend_from_slice(time_text(line))?;
     text.extend_from_slice(gathered.command())?;
     text.push(b'\n')?;
-    Ok(is_short && comment.len() <= MAX_LINE && text.len() <= MAX_TABLE - MARK.len())
+    Ok(is_short && text.len() <= MAX_TABLE - MARK.len())
 }
 
-/// Returns the comment `# NAME:LINE SETTING`, or `# NAME:LINE` if that is too long.
-fn setting_comment(
-    alloc: Global,
-    name: &[u8],
-    number: u32,
-    line: &[u8],
-) -> Result<Vec<u8>, AllocError> {
-    let mut comment = Vec::from_slice(alloc, b"# ".as_slice())?;
-    push_place(alloc, &mut comment, name, number)?;
-    let len = comment.len();
-    comment.push(b' ')?;
-    push_shown(&mut comment, skip_blanks(line))?;
-    if comment.len() > MAX_LINE {
-        comment.truncate(len);
-    }
-    Ok(comment)
-}
-
-/// Adds the comment of a setting, and nothing for another line. Says whether the text stays short
-/// enough.
+/// Adds the comment of a setting, `# NAME:LINE SETTING`, or `# NAME:LINE` if that is too long; and
+/// nothing for another line. Says whether the text stays short enough.
 fn push_setting(
     alloc: Global,
     text: &mut Vec<u8>,
@@ -88,7 +63,14 @@ fn push_setting(
     let Ok(Entry::Setting(_, _)) = read_line(line) else {
         return Ok(true);
     };
-    let comment = setting_comment(alloc, name, number, line)?;
+    let mut comment = Vec::from_slice(alloc, b"# ".as_slice())?;
+    push_place(alloc, &mut comment, name, number)?;
+    let len = comment.len();
+    comment.push(b' ')?;
+    push_shown(&mut comment, skip_blanks(line))?;
+    if comment.len() > MAX_LINE {
+        comment.truncate(len);
+    }
     text.extend_from_slice(comment.as_slice())?;
     text.push(b'\n')?;
     Ok(comment.len() <= MAX_LINE && text.len() <= MAX_TABLE - MARK.len())

@@ -1,7 +1,7 @@
 use crate::run::Run;
 
 /// An event that may come next. Minutes are civil minutes; one out of range is refused when tried.
-#[derive(Clone, Copy, Debug, PartialEq, Eq)]
+#[derive(Clone, Copy, PartialEq, Eq)]
 pub enum Event {
     /// The clock reaches this minute.
     Minute(u64),

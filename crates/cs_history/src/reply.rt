@@ -1,7 +1,7 @@
 use crate::run::Run;
 
 /// The reply to an accepted event.
-#[derive(Clone, Copy, Debug, PartialEq, Eq)]
+#[derive(Clone, Copy, PartialEq, Eq)]
 pub enum Reply {
     /// The clock was moved on.
     Clock,

@@ -1,5 +1,5 @@
 /// A run's name.
-#[derive(Clone, Copy, Debug, PartialEq, Eq, Hash)]
+#[derive(Clone, Copy, PartialEq, Eq, Hash)]
 pub struct Run {
     /// Its job, counted from 0, those of the crontab first.
     pub job: u16,
@@ -8,7 +8,7 @@ pub struct Run {
 }
 
 /// A running run.
-#[derive(Clone, Copy, Debug, PartialEq, Eq)]
+#[derive(Clone, Copy, PartialEq, Eq)]
 pub struct Going {
     /// Its name.
     pub run: Run,

@@ -8,7 +8,7 @@ use std::marker::Model;
 pub const MAX_STAMPS: usize = 64;
 
 /// The start of a history: up or down at this minute, nothing running, and these anacron stamps.
-#[derive(Debug, Drop)]
+#[derive(Drop)]
 pub struct Start {
     minute: Minute,
     up: bool,

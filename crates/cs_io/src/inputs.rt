@@ -1,6 +1,6 @@
 //! What the program reads.
-ghost use Rattle.std.specs.Prelude.{◌≡◌, ◌≤◌, ◌<◌, ◌+◌, ◌^◌, ◌⊎◌, ℕ, List, Option, Some, None, Bool};
-ghost use Rattle.std.specs.Prelude.{true, false, IfOk, IfErr, IfSome, OnErr, OnOk, length};
+ghost use Rattle.std.specs.Prelude.{◌≡◌, ◌≤◌, ◌<◌, ◌+◌, ◌^◌, ◌⊎◌, ℕ, List, Option, None, Bool};
+ghost use Rattle.std.specs.Prelude.{true, IfOk, IfErr, IfSome, OnErr, OnOk, length};
 ghost use Rattle.cs_io.specs.Files.{Gives, IsFresh, IsNextOf, IsReadAlone, IsReadOn, IsReadOut};
 ghost use Rattle.cs_io.specs.Files.{IsTooLong};
 ghost use Rattle.cs_io.specs.Reasons.{IsCannotRead};
@@ -10,7 +10,7 @@ use crate::reason::Reason;
 use std::alloc::{AllocError, AllocFailed, Global};
 
 /// A path that cannot be read, and why.
-#[derive(Clone, Copy, Debug, PartialEq, Eq)]
+#[derive(Clone, Copy, PartialEq, Eq)]
 pub struct CannotRead {
     /// The machine's reason.
     pub reason: Reason,
@@ -42,7 +42,7 @@ pub trait Inputs {
 }
 
 /// Why an input was not read.
-#[derive(Clone, Copy, Debug, PartialEq, Eq)]
+#[derive(Clone, Copy, PartialEq, Eq)]
 pub enum ReadFault {
     /// A read failed, or the input has no end.
     CannotRead(Reason),

@@ -6,7 +6,7 @@ use std::io;
 use std::io::Write;
 
 /// The output did not take all of a text.
-#[derive(Clone, Copy, Debug, PartialEq, Eq)]
+#[derive(Clone, Copy, PartialEq, Eq)]
 pub struct CannotWrite;
 
 /// Standard output or standard error: texts are written one after the other.
@@ -25,7 +25,7 @@ pub trait Output {
 }
 
 /// A writer as an output of the program.
-#[derive(Debug, Drop)]
+#[derive(Drop)]
 pub struct Printer<W: Write> {
     writer: W,
     has_failed: bool,

@@ -6,7 +6,7 @@ use std::io;
 use std::io::ErrorKind;
 
 /// Why a path can't be read, as far as the machine says.
-#[derive(Clone, Copy, Debug, PartialEq, Eq)]
+#[derive(Clone, Copy, PartialEq, Eq)]
 pub enum Reason {
     /// There is nothing at this path.
     Absent,

@@ -1,6 +1,5 @@
 //! The texts of the log's lines.
 ghost use Rattle.std.specs.Prelude.{◌≡◌, ◌++◌, OnOk};
-ghost use Rattle.std.specs.Fmt.{signed_decimal};
 ghost use Rattle.cs_jobs.specs.LogLines.{bare_end, end_text, identifier_at, line_text};
 ghost use Rattle.cs_jobs.specs.LogLines.{numbered_end, outage_text, told_text};
 ghost use Rattle.cs_jobs.specs.Names.{run_name};

@@ -4,7 +4,7 @@ ghost use Rattle.cs_json.specs.declared.fault.Misread.TheVariants.{Memory};
 use std::alloc::{AllocError, AllocFailed};
 
 /// What is wrong with a text or a JSON value.
-#[derive(Clone, Copy, Debug, PartialEq, Eq)]
+#[derive(Clone, Copy, PartialEq, Eq)]
 pub enum JsonFault {
     /// The bytes are not JSON as `serde_json` reads it: UTF-8, one value, nested at most 127 deep.
     NotJson,
@@ -13,7 +13,7 @@ pub enum JsonFault {
 }
 
 /// Why nothing was read.
-#[derive(Debug, Drop)]
+#[derive(Drop)]
 pub enum Misread {
     /// Memory ran out.
     Memory,

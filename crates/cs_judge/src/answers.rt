@@ -26,7 +26,7 @@ use cs_verdict::{Breach, no_reach, push_comments, story};
 use std::alloc::{AllocError, Global};
 
 /// What is asked of a plan.
-#[derive(Clone, Copy, Debug, PartialEq, Eq)]
+#[derive(Clone, Copy, PartialEq, Eq)]
 pub enum Wanted {
     /// Whether it is safe.
     Verdict,
@@ -37,7 +37,7 @@ pub enum Wanted {
 }
 
 /// The result for a plan.
-#[derive(Clone, Copy, Debug, PartialEq, Eq)]
+#[derive(Clone, Copy, PartialEq, Eq)]
 pub enum Outcome {
     /// The checker accepted a certificate.
     Safe,

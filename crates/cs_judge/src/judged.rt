@@ -6,7 +6,7 @@ use cs_theorem::CheckFault;
 use cs_verdict::Breach;
 
 /// What is known of a plan.
-#[derive(Debug, Drop)]
+#[derive(Drop)]
 pub enum Judged {
     /// It is safe, whatever happens: the checker has accepted it with this certificate.
     Safe(Checked),

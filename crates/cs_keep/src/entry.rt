@@ -6,7 +6,7 @@ use cs_history::{Event, Reply, Run};
 use std::marker::Model;
 
 /// Which event it is.
-#[derive(Clone, Copy, Debug, PartialEq, Eq)]
+#[derive(Clone, Copy, PartialEq, Eq)]
 pub(crate) enum EventKind {
     Minute,
     Begin,
@@ -18,7 +18,7 @@ pub(crate) enum EventKind {
 }
 
 /// Which reply it had.
-#[derive(Clone, Copy, Debug, PartialEq, Eq)]
+#[derive(Clone, Copy, PartialEq, Eq)]
 pub(crate) enum Told {
     Clock,
     Started,
@@ -31,7 +31,7 @@ pub(crate) enum Told {
 }
 
 /// An accepted event with its reply, in half of the bytes that the two take otherwise.
-#[derive(Debug, Drop)]
+#[derive(Drop)]
 pub struct Entry {
     // the minute of the event, and that of the run that it started, 0 if there is none
     at: u64,

@@ -2,7 +2,7 @@
 //! the same however many runs wait.
 ghost use Rattle.std.specs.Prelude.{◌≡◌, IsTrue, None, true};
 ghost use Rattle.cs_plan.specs.Plan.{as_plan};
-ghost use Rattle.cs_history.specs.Step.{refusal, is_settled};
+ghost use Rattle.cs_history.specs.Step.{is_settled};
 ghost use Rattle.cs_history.specs.declared.event.Event.TheVariants.{Got};
 ghost use Rattle.cs_keep.specs.FirstToGet.{earlier, first_to_get, may_get};
 ghost use Rattle.cs_keep.specs.Tick.{next_of};

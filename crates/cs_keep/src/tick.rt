@@ -14,7 +14,7 @@ use cs_history::{Event, Refusal};
 use std::sync::ledger::Ledger;
 
 /// Why a tick ended early.
-#[derive(Clone, Copy, Debug, PartialEq, Eq)]
+#[derive(Clone, Copy, PartialEq, Eq)]
 pub enum TickFault {
     /// `last` is not the present minute, or the new minute is before it.
     ClockBack,

@@ -4,7 +4,7 @@ use Rattle.std.specs.Prelude.{Contains, IfOk}
 use Rattle.clap.specs.Words.{Text}
 use Rattle.cs_crontab.specs.Crontab.{Table}
 use Rattle.cs_anacrontab.specs.Anacrontab.{Table as JobTable}
-use Rattle.cs_args.specs.CommandLine.{AskedLearn}
+use Rattle.cs_args.specs.Asked.{AskedLearn}
 use Rattle.cs_place.specs.declared.places.Place.{Place}
 use Rattle.cs_decl.specs.Meaning.{declared_by}
 use Rattle.cs_decl.specs.declared.entries.Entries.{Entries}

@@ -7,7 +7,7 @@ use Rattle.cs_crontab.specs.Crontab.{Table}
 use Rattle.cs_anacrontab.specs.Anacrontab.{Table as JobTable}
 use Rattle.cs_place.specs.declared.places.Place.{Place}
 use Rattle.cs_decl.specs.declared.entries.Entries.{Entries}
-use Rattle.cs_args.specs.CommandLine.{AskedLearn}
+use Rattle.cs_args.specs.Asked.{AskedLearn}
 use Rattle.cs_io.specs.Files.{Failed, IsTooLong}
 use Rattle.cs_learn.specs.Learned.{IsLearned}
 use Rattle.cs_learn.specs.Learning.{Told, nothing}

@@ -1,5 +1,5 @@
 //! The subcommand `learn`.
-ghost use Rattle.std.specs.Prelude.{◌≡◌, ◌≢◌, ◌⊎◌, [], ◌++◌, IfErr, IfOk, IfSome, None, OnOk, map, option_map};
+ghost use Rattle.std.specs.Prelude.{◌≡◌, ◌≢◌, ◌⊎◌, [], ◌++◌, IfErr, IfOk, None, OnOk, map, option_map};
 ghost use Rattle.cs_args.specs.Asked.{asked_learn};
 ghost use Rattle.cs_io.specs.Files.{AreReadInTurn, IsFresh};
 ghost use Rattle.cs_files.specs.RanOut.{IsWarned};

@@ -5,7 +5,7 @@ ghost use Rattle.cs_learn.specs.Jobs.{job_on};
 ghost use Rattle.cs_learn.specs.Learned.{IsDrawn, IsLearned};
 ghost use Rattle.cs_learn.specs.Learning.{Told};
 ghost use Rattle.cs_learn.specs.Log.{IsReading, at_front};
-ghost use Rattle.cs_learn.specs.Maxes.{AreMaxes, HasMaxes};
+ghost use Rattle.cs_learn.specs.Maxes.{HasMaxes};
 
 use crate::anacron::without_jobs;
 use crate::log::Log;

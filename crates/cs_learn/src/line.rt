@@ -1,8 +1,7 @@
 //! What a line of a log says of a run.
 ghost use Rattle.std.specs.Prelude.{◌≡◌, ◌==◌, IfOk};
-ghost use Rattle.cs_table.specs.Text.{is_digit};
 ghost use Rattle.cs_learn.specs.Own.{of_own, own_parts};
-ghost use Rattle.cs_learn.specs.LogLine.{log_line, syslog_in, timed_in, behind_time, begins};
+ghost use Rattle.cs_learn.specs.LogLine.{log_line, syslog_in, timed_in, behind_time};
 
 use crate::journal::journal;
 use crate::log_line::{LogLine, RunName, Sign};

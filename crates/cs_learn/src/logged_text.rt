@@ -1,6 +1,5 @@
 //! A command as cron logs it.
 ghost use Rattle.std.specs.Prelude.{◌≡◌, ◌++◌, false, IfOk, OnOk};
-ghost use Rattle.std.specs.List.{flat_map};
 ghost use Rattle.cs_learn.specs.Logged.{after_backslash, logged, run_part, shown};
 
 use cs_civil::{Bytes, Sequence};

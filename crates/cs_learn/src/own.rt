@@ -1,5 +1,5 @@
 //! What this program's own log tells of a run of a crontab's line.
-ghost use Rattle.std.specs.Prelude.{◌≡◌, ◌≤◌, IfSome, option_map};
+ghost use Rattle.std.specs.Prelude.{◌≡◌, ◌≤◌, option_map};
 ghost use Rattle.cs_learn.specs.Own.{name_in, started_in, ended_in, ending_in, own_parts, started_parts, ended_parts};
 
 use crate::log_line::{RunName, Sign};

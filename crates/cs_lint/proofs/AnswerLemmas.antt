@@ -1,29 +1,17 @@
 -- What is answered to `lint`.
-use Rattle.std.proofs.Common.{◌≡◌, ◌≢◌, ◌<◌, ◌≤◌, ◌==◌, ◌&&◌, ◌||◌, ◌⊎◌, ◌∙◌, ℕ, ℤ, Bool, true, false, not, nat_le, if◌then◌else◌, List, [], Option, Some, None, IfSome, Bor, ap, arith, inl, inr, length, option_map, refl, slice_index_or, subst, sym}
-use Rattle.std.specs.List.{list_any}
+use Rattle.std.proofs.Common.{◌≡◌, ◌≢◌, ◌<◌, ◌≤◌, ◌⊎◌, ◌∙◌, ℕ, Bool, true, false, List, [], Option, Some, None, IfSome, Bor, ap, arith, inl, inr, length, option_map, refl, subst, sym}
 use Rattle.std.specs.Option.{option_copied}
-use Rattle.std.proofs.lemmas.Bool.{cases_lt, eqb-true}
-use Rattle.std.proofs.lemmas.List.{nil_from_length}
-use Rattle.std.proofs.lemmas.List.Folds.{list_any_none}
-use Rattle.std.proofs.Math.Bool.{and-false}
+use Rattle.std.proofs.lemmas.Bool.{cases_lt}
 use Rattle.clap.specs.Words.{Text}
 use Rattle.cs_table.specs.Table.{nowhere}
-use Rattle.cs_table.specs.Text.{lines_of}
-use Rattle.cs_crontab.specs.Reading.{line_of}
-use Rattle.cs_crontab.specs.declared.table.When.{When}
 use Rattle.cs_crontab.specs.declared.fault.LineFault.TheVariants.{TooLong}
 use Rattle.cs_table.specs.declared.limits.TheConstants.{MAX_TABLE}
 use Rattle.cs_anacrontab.specs.declared.fault.JobFault.TheVariants.{TooLong as JobsTooLong}
-use Rattle.cs_args.specs.CommandLine.{AskedLint}
+use Rattle.cs_args.specs.Asked.{AskedLint}
 use Rattle.cs_io.specs.Files.{Failed, IsFresh, IsUpTo, Reads}
 use Rattle.cs_io.specs.declared.reason.Reason.{Reason}
-use Rattle.cs_lint.specs.Changes.{AreChangesAfter}
-use Rattle.cs_lint.specs.declared.change.Change.{Change}
-use Rattle.cs_plan.specs.Plan.{Declared}
-use Rattle.cs_lint.specs.Clock.{changes_told, clock_verdict, is_odd_then, summer_time, told_of_some, when_in}
-use Rattle.cs_lint.specs.Refused.{AreTaken, IsPlanOf, Judges}
-use Rattle.cs_lint.specs.Startup.{is_odd_some}
-use Rattle.cs_lint.specs.Wanted.{has_name, is_wanted}
+use Rattle.cs_lint.specs.Odd.{is_odd_table}
+use Rattle.cs_lint.specs.Refused.{AreTaken, Judges}
 use Rattle.cs_lint.specs.declared.wanted.Wanted.{Wanted}
 use Rattle.cs_lint.specs.declared.report.Verdict.{Verdict}
 use Rattle.cs_lint.specs.declared.report.Verdict.TheVariants.{Clean, Odd, Faulty}
@@ -32,13 +20,13 @@ use Rattle.cs_files.specs.Reads.{IsRead, IsUnreadAt}
 use Rattle.cs_files.specs.Trouble.{IsHonestOf, IsUnread, NoTimeZone, TellsPath, Trouble, Unread, ends, trouble, trouble_status}
 use Rattle.cs_files.specs.declared.fault.Fault.{Fault}
 use Rattle.cs_files.proofs.TroubleLemmas.{some_is}
-use Rattle.cs_lint.specs.Answer.{AreChanges, AreHeld, AreHeldTables, HasCleanPlan, HasNoZone, IfAllKnown, IfKnown, IfShort, IsAsked, IsCleanTable, IsLong, IsShort, IsNoZone, IsSomeUpTo, IsTrueOf, IsUnreadFile, IsUnreadZone, IsUnreadable, LintsFiles, TellsZone, ToldOdd, verdict_status}
+use Rattle.cs_lint.specs.Answer.{AreHeld, AreHeldTables, HasNoZone, IfAllKnown, IfKnown, IfShort, IsAsked, IsLong, IsShort, IsNoZone, IsSomeUpTo, IsTrueOf, IsUnreadFile, IsUnreadZone, IsUnreadable, LintsFiles, TellsZone, ToldOdd, verdict_status}
 
 -- a file can't be read, or is no time zone's
-pub unread_answer : (a : AskedLint) (now : ℤ) (files : List ℕ → Option (List ℕ)) (before after : Failed) (e : Fault) (r : Ending) → IfSome (trouble e) (IsUnreadable a files before after) → option_map (ends []) (trouble e) ≡ Some r → LintsFiles a now files before after r
-unread_answer a now files before after e r = by_trouble (trouble e)
+pub unread_answer : (a : AskedLint) (files : List ℕ → Option (List ℕ)) (before after : Failed) (e : Fault) (r : Ending) → IfSome (trouble e) (IsUnreadable a files before after) → option_map (ends []) (trouble e) ≡ Some r → LintsFiles a files before after r
+unread_answer a files before after e r = by_trouble (trouble e)
   where
-    by_trouble : (o : Option Trouble) → IfSome o (IsUnreadable a files before after) → option_map (ends []) o ≡ Some r → LintsFiles a now files before after r
+    by_trouble : (o : Option Trouble) → IfSome o (IsUnreadable a files before after) → option_map (ends []) o ≡ Some r → LintsFiles a files before after r
     by_trouble None h is = absurd (cc)
     by_trouble (Some t) told is = inr (t, told, sym (some_is (ends [] t) r is))
 
@@ -106,14 +94,14 @@ short_or_long (Some text) = elim (cases_lt MAX_TABLE (length text)) [
 ]
 
 -- what was judged of the bytes that were read is so of the files
-pub judged : (a : AskedLint) (now : ℤ) (files : List ℕ → Option (List ℕ)) (v : Verdict) (table : List ℕ) (jobs declarations : Option (List ℕ)) (changes : List Change)
-    → AreHeld a now files table jobs declarations changes → Judges v table jobs declarations → IfAllKnown files a (Judges v)
-judged a now files v table jobs declarations changes (tables, more) is = by_table (files a.table) tables.0
+pub judged : (a : AskedLint) (files : List ℕ → Option (List ℕ)) (v : Verdict) (table : List ℕ) (jobs declarations : Option (List ℕ))
+    → AreHeld a files table jobs declarations → Judges v table jobs declarations → IfAllKnown files a (Judges v)
+judged a files v table jobs declarations (tables, more) is = by_table (files a.table) tables.0
   where
     beside : (j : Option (List ℕ)) → length table ≤ MAX_TABLE → IsSomeUpTo jobs j → IfKnown files a.declarations (Judges v table j)
     beside j short (inr (l, m)) = if_known files a.declarations (Judges v table j) (λ d. long_jobs v table jobs j declarations d l m is)
     beside j short (inl same) = elim (short_or_long jobs) [
-      | inl few ↦ known_so files a.declarations (λ d. declarations ≡ d) (Judges v table j) (λ d e. subst (λ (k : Option (List ℕ)). Judges v table k d) same (subst (λ (x : Option (List ℕ)). Judges v table jobs x) e is)) ((more short few).0)
+      | inl few ↦ known_so files a.declarations (λ d. declarations ≡ d) (Judges v table j) (λ d e. subst (λ (k : Option (List ℕ)). Judges v table k d) same (subst (λ (x : Option (List ℕ)). Judges v table jobs x) e is)) (more short few)
       | inr long ↦ if_known files a.declarations (Judges v table j) (λ d. long_jobs v table jobs j declarations d long (subst IsLong same long) is)
     ]
 
@@ -140,7 +128,7 @@ none_odd v Clean status same other is = λ one. absurd (omega (arith, is, one))
 none_odd v Odd status same other is = absurd (other (sym same))
 none_odd v Faulty status same other is = λ one. absurd (omega (arith, is, one))
 
--- ---- the clocks
+-- ---- the file of a time zone
 
 long_no_short : (o : Option (List ℕ)) → IsLong o → IsShort o → ⊥
 long_no_short None l s = l
@@ -163,41 +151,6 @@ short_so a files table jobs R (read, beside) h = by_table (files a.table) read
     by_table (Some t) (inl same) = subst (λ (b : List ℕ). length b ≤ MAX_TABLE → IfKnown files a.anacrontab (λ j. IsShort j → R b)) same of_held
     by_table (Some t) (inr (l, m)) = λ short. absurd (omega (arith, short, m))
 
--- ---- where nothing odd was found
-
--- no test passes where none of the elements does
-none_any : {X : Type 0} (p : X → Bool) → ((x : X) → p x ≡ false) → (xs : List X) → list_any p xs ≡ false
-none_any p never xs = list_any_none p xs (λ k d below. never (slice_index_or xs k d))
-
--- no change is told of a table, if none is of each line
-no_clock : (w : Wanted) (changes : List Change) (table : List ℕ) → ((line : List ℕ) → is_odd_then w changes line ≡ false) → clock_verdict w changes table ≡ Clean
-no_clock w changes table never =
-    ap (λ (b : Bool). if nat_le (length table) MAX_TABLE && b then Odd else Clean) (none_any (is_odd_then w changes) never (lines_of table))
-    ∙ ap (λ (b : Bool). if b then Odd else Clean) (and-false (nat_le (length table) MAX_TABLE))
-
--- where faults alone are told none is
-only_faults : (w : Wanted) (changes : List Change) (line : List ℕ) → w.faults_only ≡ true → is_odd_then w changes line ≡ false
-only_faults w changes line only =
-    none_any (λ change. is_wanted w summer_time) (λ change. ap (λ (b : Bool). not b && ((length w.only.now == 0 || has_name w.only.now summer_time) && not (has_name w.except.now summer_time))) only) (changes_told changes line)
-
--- nor where the clocks don't change
-no_change : (w : Wanted) (line : List ℕ) → is_odd_then w [] line ≡ false
-unfolding changes_told
-no_change w line = by_when (when_in (line_of line))
-  where
-    by_when : (o : Option When) → list_any (λ change. is_wanted w summer_time) (told_of_some [] o) ≡ false
-    by_when None = refl
-    by_when (Some when) = refl
-
--- a list whose test says that it's empty is
-pub none_there : {X : Type 0} (xs : List X) (empty : Bool) → empty ≡ (length xs == 0) → empty ≡ true → xs ≡ []
-none_there xs empty is so = nil_from_length xs (eqb-true _ 0 (sym is ∙ so))
-
--- so of no line where it isn't looked for
-pub clock_passed : (w : Wanted) (changes : List Change) (table : List ℕ) → (changes ≡ []) ⊎ (w.faults_only ≡ true) → clock_verdict w changes table ≡ Clean
-clock_passed w changes table (inl none) = no_clock w changes table (λ line. subst (λ (c : List Change). is_odd_then w c line ≡ false) (sym none) (no_change w line))
-clock_passed w changes table (inr only) = no_clock w changes table (λ line. only_faults w changes line only)
-
 -- what isn't odd in the end wasn't before
 pub still_clean : (v r : Verdict) → (r ≡ v) ⊎ ((v ≡ Clean) × (r ≡ Odd)) → r ≡ Clean → v ≡ Clean
 still_clean v r (inl same) clean = sym same ∙ clean
@@ -208,17 +161,9 @@ pub not_found : (odd : Bool) (v : Verdict) → (odd ≡ true → v ≢ Clean) �
 not_found true v found clean = absurd (found refl clean)
 not_found false v found clean = refl
 
--- nor is anything odd about the plan
-pub plan_clean : (w : Wanted) (v : Verdict) (t : List ℕ) (j d : Option (List ℕ)) → (plan : Option Declared) × IsPlanOf plan t j d × (is_odd_some w t plan ≡ true → v ≢ Clean) → v ≡ Clean → HasCleanPlan w t j d
-plan_clean w v t j d (plan, is, found) clean = (plan, is, not_found (is_odd_some w t plan) v found clean)
-
 -- files that are taken aren't too long
 table_short : (t : List ℕ) (j d : Option (List ℕ)) → AreTaken t j d → length t ≤ MAX_TABLE
 table_short t j d (table, jobs, means, others, plan) = means.short
-
-jobs_short : (t : List ℕ) (j d : Option (List ℕ)) → AreTaken t j d → IsShort j
-jobs_short t None d is = tt
-jobs_short t (Some text) d (table, jobs, means, others, plan) = others.short
 
 -- what holds of a crontab that was read, and isn't too long, holds of its file
 known_table : (o : Option (List ℕ)) (table : List ℕ) (R : List ℕ → Type 0) → IfSome o (λ t. IsUpTo MAX_TABLE t table) → length table ≤ MAX_TABLE → R table → IfSome o R
@@ -226,37 +171,22 @@ known_table None table R read short is = tt
 known_table (Some t) table R (inl same) short is = subst R same is
 known_table (Some t) table R (inr (l, m)) short is = absurd (omega (arith, l, short))
 
--- .. and so of all files
-known_all : (a : AskedLint) (now : ℤ) (files : List ℕ → Option (List ℕ)) (table : List ℕ) (jobs declarations : Option (List ℕ)) (changes : List Change) (R : List ℕ → Option (List ℕ) → Option (List ℕ) → Type 0)
-    → AreHeld a now files table jobs declarations changes → length table ≤ MAX_TABLE → IsShort jobs → R table jobs declarations → IfAllKnown files a R
-known_all a now files table jobs declarations changes R (tables, more) short few is =
-    known_table (files a.table) table (λ t. IfKnown files a.anacrontab (λ j. IfKnown files a.declarations (R t j))) tables.0 short
-    (known_so files a.anacrontab (IsSomeUpTo jobs) (λ j. IfKnown files a.declarations (R table j)) beside (tables.1 short))
-  where
-    beside : (j : Option (List ℕ)) → IsSomeUpTo jobs j → IfKnown files a.declarations (R table j)
-    beside j (inr (l, m)) = absurd (long_no_short jobs l few)
-    beside j (inl same) = known_so files a.declarations (λ d. declarations ≡ d) (R table j) (λ d e. subst (λ (k : Option (List ℕ)). R table k d) same (subst (λ (x : Option (List ℕ)). R table jobs x) e is)) ((more short few).0)
-
 -- status 0 is that of nothing found
 pub none_found : (v : Verdict) (status : ℕ) → status ≡ verdict_status v → status ≡ 0 → v ≡ Clean
 none_found Clean status is zero = refl
 none_found Odd status is zero = absurd (omega (arith, is, zero))
 none_found Faulty status is zero = absurd (omega (arith, is, zero))
 
--- nothing odd was found in the files
-pub told_odd : (a : AskedLint) (now : ℤ) (files : List ℕ → Option (List ℕ)) (table : List ℕ) (jobs declarations : Option (List ℕ)) (changes : List Change) (wanted : Wanted) (verdict : Verdict) (r : Ending)
-    → AreHeld a now files table jobs declarations changes → IsAsked a wanted → r.status ≡ verdict_status verdict → Judges verdict table jobs declarations
-    → (r.status ≡ 0 → IsCleanTable wanted changes table) → (r.status ≡ 0 → HasCleanPlan wanted table jobs declarations) → ToldOdd a now files r
-told_odd a now files table jobs declarations changes wanted verdict r held asked status judges clean planned = (
+-- nothing odd was found in the crontab
+pub told_odd : (a : AskedLint) (files : List ℕ → Option (List ℕ)) (table : List ℕ) (jobs declarations : Option (List ℕ)) (wanted : Wanted) (verdict : Verdict) (r : Ending)
+    → AreHeld a files table jobs declarations → IsAsked a wanted → r.status ≡ verdict_status verdict → Judges verdict table jobs declarations
+    → (r.status ≡ 0 → is_odd_table wanted table ≡ false) → ToldOdd a files r
+told_odd a files table jobs declarations wanted verdict r held asked status judges clean = (
   wanted,
-  changes,
   asked,
-  short_so a files table jobs (λ t. IfKnown files a.zone (λ zone. AreChanges now zone changes)) held.0 (λ short few. (held.1 short few).1),
   λ zero.
       let taken : AreTaken table jobs declarations = subst (λ (v : Verdict). Judges v table jobs declarations) (none_found verdict r.status status zero) judges in
-      let short = table_short table jobs declarations taken in
-      let few = jobs_short table jobs declarations taken in
-      (known_table (files a.table) table (IsCleanTable wanted changes) held.0.0 short (clean zero), known_all a now files table jobs declarations changes (HasCleanPlan wanted) held short few (planned zero)),
+      known_table (files a.table) table (λ t. is_odd_table wanted t ≡ false) held.0.0 (table_short table jobs declarations taken) (clean zero),
 )
 
 -- the file of the zone can't be read, or is none
@@ -312,19 +242,6 @@ none_is_true files left path bytes e fresh read = by_trouble (trouble e)
     by_trouble : (o : Option Trouble) → IfSome o (λ t. (t ≡ NoTimeZone path) × IsNoZone bytes) → IfSome o (λ t. TellsZone (Some path) t → HasNoZone files (Some path))
     by_trouble None is = tt
     by_trouble (Some t) (is, none) = λ zone. by_file (files path) (left path) (fresh path) read none
-
--- the changes of a zone that was read are those of its file
-pub changes_read : (files left : List ℕ → Option (List ℕ)) (path : Text) (bytes : List ℕ) (now : ℤ) (changes : List Change) → IsFresh files left → IsRead MAX_TABLE path left bytes
-    → (length bytes ≤ MAX_TABLE) × AreChangesAfter bytes now changes → IfSome (files path) (λ zone. AreChangesAfter zone now changes)
-changes_read files left path bytes now changes fresh read (short, are) = by_file (files path) (left path) (fresh path) read
-  where
-    of_text : (text : List ℕ) → IsUpTo MAX_TABLE text bytes → AreChangesAfter text now changes
-    of_text text (inl same) = subst (λ (b : List ℕ). AreChangesAfter b now changes) same are
-    of_text text (inr (l, m)) = absurd (omega (arith, l, short))
-
-    by_file : (whole rest : Option (List ℕ)) → IfSome whole (λ text. rest ≡ Some text) → IfSome rest (λ text. IsUpTo MAX_TABLE text bytes) → IfSome whole (λ zone. AreChangesAfter zone now changes)
-    by_file None rest same up = tt
-    by_file (Some text) rest same up = of_text text (subst (λ (o : Option (List ℕ)). IfSome o (λ t. IsUpTo MAX_TABLE t bytes)) same up)
 
 -- which is no status of a failed device
 pub zone_is_honest : (failed : Failed) (reads : Reads) (path : Text) (bytes : List ℕ) (e : Fault) → IfSome (trouble e) (λ t. (t ≡ NoTimeZone path) × IsNoZone bytes) → IsHonestOf failed reads e

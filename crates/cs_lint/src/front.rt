@@ -126,15 +126,10 @@ fn no_item_words(alloc: Global, field: Field, item: &[u8], is_first: bool) -> Wo
     format!(in alloc; "`{text}` is no {name}{read}: write {range}")
 }
 
-/// Whether an item may have the byte.
-fn is_part(byte: u8) -> bool {
-    byte.is_ascii_alphanumeric() || matches!(byte, b'*' | b'-' | b'/')
-}
-
 /// What stands in front of the first byte that no item may have; nothing where there is none.
 fn front_of(item: &[u8]) -> &[u8] {
     for (at, byte) in item.iter().enumerate() {
-        if !is_part(*byte) {
+        if !byte.is_ascii_alphanumeric() && !b"*-/".contains(byte) {
             return Span::of(0, at).bytes(item);
         }
     }

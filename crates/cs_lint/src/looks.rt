@@ -1,11 +1,9 @@
-//! What is looked for in each line of a crontab by itself.
-ghost use Rattle.std.specs.Prelude.{◌≡◌, ◌||◌, OnOk};
-ghost use Rattle.cs_lint.specs.Looks.{is_odd_by, is_odd_table_by};
+//! What is looked for in each line of a crontab beside a plan or a time zone.
+ghost use Rattle.std.specs.Prelude.{◌≡◌, true, OnOk};
 
 use crate::change::Change;
 use crate::clock::find_changes_in;
 use crate::held::Held;
-use crate::odd_lines::find_oddities;
 use crate::startup::find_startup;
 use crate::wanted::Wanted;
 use cs_diagnostics::{Done, Findings};
@@ -15,8 +13,6 @@ use cs_table::text::first_line;
 /// What is looked for in a line.
 #[derive(Clone, Copy)]
 pub(crate) enum Look<'a> {
-    /// What is odd in it.
-    Oddities,
     /// Whether it's due in one of those changes of the clocks.
     Changes(&'a [Change]),
     /// Whether it's started at startup and takes a lock, beside those commands of a plan.
@@ -31,11 +27,10 @@ fn find_in_line(
     start: usize,
     line: &[u8],
 ) -> Done
-    ensures { OnOk result (findings.new.has_oddities
-        ≡ (findings.old.has_oddities || is_odd_by wanted.now look.now line.now)) }
+    ensures { OnOk result (findings.old.has_oddities ≡ true
+        → findings.new.has_oddities ≡ true) }
 {
     match look {
-        Look::Oddities => find_oddities(findings, wanted, start, line),
         Look::Changes(changes) => find_changes_in(findings, wanted, *changes, start, line),
         Look::Startups(all) => find_startup(findings, wanted, *all, start, line),
     }
@@ -48,8 +43,8 @@ pub(crate) fn find_in_lines(
     look: &Look<'_>,
     table: &[u8],
 ) -> Done
-    ensures { OnOk result (findings.new.has_oddities
-        ≡ (findings.old.has_oddities || is_odd_table_by wanted.now look.now table.now)) }
+    ensures { OnOk result (findings.old.has_oddities ≡ true
+        → findings.new.has_oddities ≡ true) }
 {
     if table.len() > MAX_TABLE {
         return Ok(());

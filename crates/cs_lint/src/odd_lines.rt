@@ -1,13 +1,14 @@
 //! What is odd in the lines of a crontab, each by itself.
 ghost use Rattle.std.specs.Prelude.{◌≡◌, ◌||◌, OnOk};
-ghost use Rattle.cs_lint.specs.Odd.{is_odd_line};
+ghost use Rattle.cs_lint.specs.Odd.{is_odd_line, is_odd_table};
 
 use crate::line::{word_behind, word_from};
 use crate::oddity::{Oddity, oddities_in};
 use crate::text::{MAX_COMMAND, from_percent};
 use crate::wanted::Wanted;
 use cs_diagnostics::{Done, Findings, Span};
-use cs_table::text::is_blank;
+use cs_table::MAX_TABLE;
+use cs_table::text::{first_line, is_blank};
 
 /// From the first of two words of a line to the end of the second, both counted from 0.
 fn words(line: &[u8], first: usize, last: usize) -> Span {
@@ -73,12 +74,7 @@ fn place_of(oddity: Oddity, line: &[u8]) -> Span {
 }
 
 /// Adds what is odd in a line that begins at that byte of the table.
-pub(crate) fn find_oddities(
-    findings: &mut Findings,
-    wanted: &Wanted<'_>,
-    start: usize,
-    line: &[u8],
-) -> Done
+fn find_oddities(findings: &mut Findings, wanted: &Wanted<'_>, start: usize, line: &[u8]) -> Done
     ensures { OnOk result (findings.new.has_oddities
         ≡ (findings.old.has_oddities || is_odd_line wanted.now line.now)) }
 {
@@ -86,6 +82,25 @@ pub(crate) fn find_oddities(
     for oddity in found.iter() {
         let place = place_of(*oddity, line).behind(start);
         wanted.odd(findings, place, oddity.name(), oddity.why())?;
+    }
+    Ok(())
+}
+
+/// Adds what is odd in each line of a table that isn't too long.
+pub(crate) fn find_odd_lines(findings: &mut Findings, wanted: &Wanted<'_>, table: &[u8]) -> Done
+    ensures { OnOk result (findings.new.has_oddities
+        ≡ (findings.old.has_oddities || is_odd_table wanted.now table.now)) }
+{
+    if table.len() > MAX_TABLE {
+        return Ok(());
+    }
+    let mut start = 0usize;
+    let mut rest = table;
+    while !rest.is_empty() {
+        let (line, after) = first_line(rest);
+        find_oddities(findings, wanted, start, line)?;
+        start = start.saturating_add(line.len()).saturating_add(1);
+        rest = after;
     }
     Ok(())
 }

@@ -1,17 +1,17 @@
 //! What is odd, and why.
 ghost use Rattle.std.specs.Prelude.{◌≡◌, ◌∷◌, [], IfOk, filter};
 ghost use Rattle.cs_crontab.specs.Seen.{entry_seen};
-ghost use Rattle.cs_lint.specs.OddLines.{all_oddities, ends_in, has_percent, is_odd, is_odd_command};
+ghost use Rattle.cs_lint.specs.OddLines.{ends_in, is_odd, is_odd_command};
 ghost use Rattle.cs_lint.specs.OddLines.{is_odd_setting, name_of, oddities_of};
 
 use crate::fields::{has_both_days, is_each_minute, is_uneven};
 use crate::setting::{has_comment, has_variable, is_bare};
-use crate::text::{from_percent, is_background, is_commented, is_long};
+use crate::text::{MAX_COMMAND, from_percent, is_background, is_commented};
 use cs_crontab::{Entry, read_line};
 use std::alloc::{AllocError, Global};
 
 /// Something odd in a line of a crontab: it can be read, but is seldom meant.
-#[derive(Clone, Copy, Debug, PartialEq, Eq)]
+#[derive(Clone, Copy, PartialEq, Eq)]
 pub enum Oddity {
     /// Each minute of one hour: `* 3 * * *`.
     EachMinute,
@@ -90,7 +90,7 @@ impl Oddity {
             Oddity::Backslash => ends_in(line, b'\\'),
             Oddity::CarriageReturn => ends_in(line, b'\r'),
             Oddity::PercentSign => !from_percent(command).is_empty(),
-            Oddity::LongCommand => is_long(command),
+            Oddity::LongCommand => command.len() > MAX_COMMAND,
             Oddity::Background => is_background(command),
             Oddity::CommandComment => is_commented(command),
             Oddity::BothDays => has_both_days(line),
@@ -137,53 +137,39 @@ impl Oddity {
     /// Why it is odd, and what to change.
     pub fn why(self) -> &'static str {
         match self {
-            Oddity::EachMinute => EACH_MINUTE,
-            Oddity::UnevenMinutes => UNEVEN_MINUTES,
-            Oddity::UnevenHours => UNEVEN_HOURS,
-            Oddity::UnevenDays => UNEVEN_DAYS,
-            Oddity::BothDays => BOTH_DAYS,
-            Oddity::PercentSign => PERCENT_SIGN,
-            Oddity::LongCommand => LONG_COMMAND,
-            Oddity::Background => BACKGROUND,
-            Oddity::CommandComment => COMMAND_COMMENT,
-            Oddity::Unexpanded => UNEXPANDED,
-            Oddity::TimeZone => TIME_ZONE,
-            Oddity::ValueComment => VALUE_COMMENT,
-            Oddity::Backslash => BACKSLASH,
-            Oddity::CarriageReturn => CARRIAGE_RETURN,
+            Oddity::EachMinute => "due at each minute of this hour: write 0 for one run, or 0-59",
+            Oddity::UnevenMinutes => {
+                "the step begins anew each hour, after a shorter gap: take a divisor of 60"
+            }
+            Oddity::UnevenHours => {
+                "the step begins anew each day, after a shorter gap: take a divisor of 24"
+            }
+            Oddity::UnevenDays => {
+                "the step begins anew each month, after another gap: list the days"
+            }
+            Oddity::BothDays => "either day is enough: to ask for both, test one in the command",
+            Oddity::PercentSign => {
+                r"the command ends here, and what follows is its input: write \%"
+            }
+            Oddity::LongCommand => "Debian's cron takes 998 bytes: put the command into a script",
+            Oddity::Background => {
+                "the run ends while this goes on, past its longest time: remove the `&`"
+            }
+            Oddity::CommandComment => {
+                "the comment is part of the command: put it on a line of its own"
+            }
+            Oddity::Unexpanded => "no variable is expanded in a setting: write out its value",
+            Oddity::TimeZone => {
+                "commands get this zone, but aren't due by it: set it in each command"
+            }
+            Oddity::ValueComment => "the comment is part of the value: put it on a line of its own",
+            Oddity::Backslash => "the next line isn't joined to this one: write it all on one line",
+            Oddity::CarriageReturn => {
+                "a carriage return ends this line: end lines with a newline alone"
+            }
         }
     }
 }
-
-const EACH_MINUTE: &str = "due at each minute of this hour: write 0 for one run, or 0-59";
-
-const UNEVEN_MINUTES: &str =
-    "the step begins anew each hour, after a shorter gap: take a divisor of 60";
-
-const UNEVEN_HOURS: &str =
-    "the step begins anew each day, after a shorter gap: take a divisor of 24";
-
-const UNEVEN_DAYS: &str = "the step begins anew each month, after another gap: list the days";
-
-const BOTH_DAYS: &str = "either day is enough: to ask for both, test one in the command";
-
-const PERCENT_SIGN: &str = r"the command ends here, and what follows is its input: write \%";
-
-const LONG_COMMAND: &str = "Debian's cron takes 998 bytes: put the command into a script";
-
-const BACKGROUND: &str = "the run ends while this goes on, past its longest time: remove the `&`";
-
-const COMMAND_COMMENT: &str = "the comment is part of the command: put it on a line of its own";
-
-const UNEXPANDED: &str = "no variable is expanded in a setting: write out its value";
-
-const TIME_ZONE: &str = "commands get this zone, but aren't due by it: set it in each command";
-
-const VALUE_COMMENT: &str = "the comment is part of the value: put it on a line of its own";
-
-const BACKSLASH: &str = "the next line isn't joined to this one: write it all on one line";
-
-const CARRIAGE_RETURN: &str = "a carriage return ends this line: end lines with a newline alone";
 
 /// Those of some that are in a line which is read so.
 fn those_in(

@@ -1,8 +1,8 @@
 //! What the readers of the files refuse.
-ghost use Rattle.std.specs.Prelude.{◌≡◌, ◌-◌, ◌≤◌, false, IfOk, None, Some};
+ghost use Rattle.std.specs.Prelude.{◌≡◌, ◌-◌, ◌≤◌, false, IfOk, Some};
 ghost use Rattle.std.specs.Option.{option_map};
 ghost use Rattle.cs_plan.specs.Printed.{fault_text};
-ghost use Rattle.cs_lint.specs.Refused.{Finds, FindsJobs, FindsPlan, FindsTable, IsPlanOf};
+ghost use Rattle.cs_lint.specs.Refused.{Finds, FindsJobs, FindsPlan, FindsTable};
 
 use cs_anacrontab::{AnacronFault, Anacrontab, JobFault, read_anacrontab};
 use cs_crontab::{Crontab, LineFault, TableFault, read_crontab};
@@ -131,8 +131,7 @@ fn plan_or_refusal(
 }
 
 fn refused(refusal: Refusal<'static>) -> Looked<'static>
-    ensures refusal { result.refusal ≡ Some refusal.entry }
-    ensures plan { result.plan ≡ None }
+    ensures { result.refusal ≡ Some refusal.entry }
 {
     Looked {
         refusal: Some(refusal),
@@ -148,9 +147,7 @@ pub(crate) fn look_at(
     jobs: Option<&[u8]>,
     declarations: Option<&[u8]>,
 ) -> Result<Looked<'static>, AllocError>
-    ensures refusal { IfOk result (λ looked. Finds looked.refusal table.now
-        (option_map (λ t. t.now) jobs.entry) (option_map (λ t. t.now) declarations.entry)) }
-    ensures plan { IfOk result (λ looked. IsPlanOf looked.plan table.now
+    ensures { IfOk result (λ looked. Finds looked.refusal table.now
         (option_map (λ t. t.now) jobs.entry) (option_map (λ t. t.now) declarations.entry)) }
 {
     let table = match table_or_refusal(alloc, table)? {

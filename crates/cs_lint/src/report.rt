@@ -1,7 +1,7 @@
 use cs_civil::Bytes;
 
 /// What all of it comes to.
-#[derive(Clone, Copy, Debug, PartialEq, Eq)]
+#[derive(Clone, Copy, PartialEq, Eq)]
 pub enum Verdict {
     /// Nothing was found.
     Clean,
@@ -12,7 +12,7 @@ pub enum Verdict {
 }
 
 /// What is told of files.
-#[derive(Debug, Drop)]
+#[derive(Drop)]
 pub struct Report {
     /// What was found, file after file; nothing where nothing was.
     pub text: Bytes,

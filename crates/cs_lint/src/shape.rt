@@ -1,9 +1,9 @@
 //! What each object of declarations holds: its members, their values and the ranges of their
 //! numbers.
-use crate::object::{Kind, Tell};
+use crate::entry::{Entry, Kind, Tell};
 use cs_civil::MINUTES_OF_DAY;
 use cs_decl::named_when;
-use cs_diagnostics::{Done, Object, Span, meant, nearest, quoted};
+use cs_diagnostics::{Done, Findings, Object, Span, meant, nearest, quoted};
 use cs_plan::{DeclFault, MAX_CAPACITY, MAX_MINUTES, MAX_WEIGHT};
 use indexmap::IndexSet;
 use serde_json::Value;
@@ -12,23 +12,10 @@ use std::alloc::{AllocError, Global};
 /// How many members are compared with the name of one that is lacking.
 const MAX_LOOKED_AT: usize = 100;
 
-/// The names of the members that an object of that kind may have.
-fn names_of(kind: Kind) -> &'static str {
-    match kind {
-        Kind::Whole => "anacron capacity cron default groups hours left_out note offset pass",
-        Kind::Group => "exclusive name note",
-        Kind::Cron => "command group guess line max mode note parts weight when",
-        Kind::Part => "max name note",
-        Kind::Anacron => "group guess id max note weight",
-        Kind::LeftOut => "command line note when",
-        Kind::Default => "max note weight",
-    }
-}
-
 /// Whether the whole has a member of that name, or one that may be meant to be it.
 pub(crate) fn has_meant(alloc: Global, whole: &Object<'_>, name: &str) -> Result<bool, AllocError> {
-    let known = names_of(Kind::Whole).split_whitespace();
-    let known = known.collect::<Vec<&str>>(alloc)?;
+    let (_, known) = Kind::Whole.called();
+    let known = known.split_whitespace().collect::<Vec<&str>>(alloc)?;
     for (member, _) in whole.members.iter().take(MAX_LOOKED_AT) {
         if nearest(alloc, member.as_str(), known.as_slice())? == Some(name) {
             return Ok(true);
@@ -38,7 +25,7 @@ pub(crate) fn has_meant(alloc: Global, whole: &Object<'_>, name: &str) -> Result
 }
 
 /// A whole number, as declarations take one.
-pub(crate) fn whole(value: &Value) -> Option<i128> {
+fn whole(value: &Value) -> Option<i128> {
     value.as_number()?.as_i128()
 }
 
@@ -52,8 +39,23 @@ fn are_hours(value: &Value) -> Option<bool> {
     Some(0 <= from && from < to && to <= i128::from(MINUTES_OF_DAY))
 }
 
+const WHOLE: &str = "a whole number: no quotes, point or exponent";
+
+const TEXT: &str = "text, in double quotes";
+
+const HOURS: &str = "two minutes of the day, [FROM, TO]";
+
+const MODE: &str = "one of \"none\", \"skip\", \"try\", \"wait\" and \"shared\"";
+
+const MODES: &str = "none skip try wait shared";
+
 /// Adds what is wrong with the value of a member of that name.
-fn find_in_value(tell: &mut Tell<'_>, name: &str, value: &Value, span: Span) -> Done {
+fn find_in_value(
+    tell: &mut Tell<'_>,
+    entry: &Entry<'_>,
+    name: &str,
+    (value, span): (&Value, Span),
+) -> Done {
     let (is_so, wanted) = match name {
         "anacron" | "cron" | "groups" | "left_out" | "parts" => (value.is_array(), "a list, [..]"),
         "default" => (value.is_object(), "an object, {..}"),
@@ -65,33 +67,28 @@ fn find_in_value(tell: &mut Tell<'_>, name: &str, value: &Value, span: Span) -> 
     };
     if !is_so {
         let why = format_args!("\"{name}\" is {wanted}");
-        return tell.fault(span, DeclFault::BadShape, why);
+        return tell.fault(entry, span, DeclFault::BadShape, why);
     }
     match (name, value.as_str()) {
         ("hours", _) if are_hours(value) == Some(false) => {
             let why = "\"hours\" is [FROM, TO], from 0 to 1440, FROM before TO";
-            tell.fault(span, DeclFault::BadHours, why)
+            tell.fault(entry, span, DeclFault::BadHours, why)
         }
         ("mode", Some(mode)) if !is_among(MODES, mode) => {
-            find_none(tell, span, mode, ("no mode", MODES, "the modes are"))
+            find_none(
+                &mut tell.findings,
+                span,
+                mode,
+                ("no mode", MODES, "the modes are"),
+            )
         }
         ("when", Some(told)) if named_when(tell.findings.alloc, told)?.is_none() => {
             let why = "\"when\" is the five fields of a line, or its @ word";
-            tell.fault(span, DeclFault::BadShape, why)
+            tell.fault(entry, span, DeclFault::BadShape, why)
         }
-        _ => find_in_range(tell, name, value, span),
+        _ => find_in_range(tell, entry, name, (value, span)),
     }
 }
-
-const WHOLE: &str = "a whole number: no quotes, point or exponent";
-
-const TEXT: &str = "text, in double quotes";
-
-const HOURS: &str = "two minutes of the day, [FROM, TO]";
-
-const MODE: &str = "one of \"none\", \"skip\", \"try\", \"wait\" and \"shared\"";
-
-const MODES: &str = "none skip try wait shared";
 
 fn is_among(names: &str, name: &str) -> bool {
     for known in names.split_whitespace() {
@@ -103,19 +100,23 @@ fn is_among(names: &str, name: &str) -> bool {
 }
 
 /// Adds that a name is what is said of it, for none of those that are known.
-fn find_none(tell: &mut Tell<'_>, span: Span, name: &str, says: (&str, &str, &str)) -> Done {
-    if !tell.findings.takes_fault(span) {
+fn find_none(findings: &mut Findings, span: Span, name: &str, says: (&str, &str, &str)) -> Done {
+    if !findings.takes_fault(span) {
         return Ok(());
     }
-    let (alloc, (is, known, otherwise)) = (tell.findings.alloc, says);
+    let (alloc, (is, known, otherwise), fault) = (findings.alloc, says, DeclFault::BadShape);
     let hint = meant(alloc, name, "\"", known, otherwise)?;
     let text = quoted(alloc, name)?;
-    let why = format_args!("{text} is {is}: {hint}");
-    tell.fault(span, DeclFault::BadShape, why)
+    findings.fault(span, format_args!("{fault}: {text} is {is}: {hint}"))
 }
 
-fn find_in_range(tell: &mut Tell<'_>, name: &str, value: &Value, span: Span) -> Done {
-    let bad_max = match tell.kind {
+fn find_in_range(
+    tell: &mut Tell<'_>,
+    entry: &Entry<'_>,
+    name: &str,
+    (value, span): (&Value, Span),
+) -> Done {
+    let bad_max = match entry.kind {
         Kind::Part => DeclFault::BadParts,
         _ => DeclFault::BadMax,
     };
@@ -130,62 +131,67 @@ fn find_in_range(tell: &mut Tell<'_>, name: &str, value: &Value, span: Span) -> 
     match whole(value) {
         Some(number) if number < i128::from(low) || i128::from(high) < number => {
             let why = format_args!("\"{name}\" is from {low} to {high}{unit}");
-            tell.fault(span, fault, why)
+            tell.fault(entry, span, fault, why)
         }
         _ => Ok(()),
     }
 }
 
-fn find_lacking(tell: &mut Tell<'_>, object: &Object<'_>) -> Done {
-    let ((_, _, called), fault) = (tell.kind.names(), DeclFault::BadShape);
-    for name in names_of(tell.kind).split_whitespace() {
+fn find_lacking(tell: &mut Tell<'_>, entry: &Entry<'_>) -> Done {
+    let ((called, known), bracket) = (entry.kind.called(), entry.object.bracket);
+    for name in known.split_whitespace() {
         let is_needed = matches!(name, "capacity" | "exclusive" | "id" | "max" | "name");
-        if is_needed && !object.has(name) {
+        if is_needed && !entry.object.has(name) {
             let why = format_args!("\"{name}\" is required: add it to {called}");
-            tell.fault(object.bracket, fault, why)?;
+            tell.fault(entry, bracket, DeclFault::BadShape, why)?;
         }
     }
-    let has_none = !object.has("line") && !object.has("command");
-    if has_none && matches!(tell.kind, Kind::Cron | Kind::LeftOut) {
+    let has_none = !entry.object.has("line") && !entry.object.has("command");
+    if has_none && matches!(entry.kind, Kind::Cron | Kind::LeftOut) {
         let why = format_args!("\"line\" or \"command\" is required: add one to {called}");
-        tell.fault(object.bracket, fault, why)?;
+        tell.fault(entry, bracket, DeclFault::BadShape, why)?;
     }
     Ok(())
 }
 
-/// Adds what is wrong with the members of an object, each by itself.
-pub(crate) fn find_in_object(tell: &mut Tell<'_>, object: &Object<'_>) -> Done {
-    let mut counted = IndexSet::new(tell.findings.alloc);
-    for (name, part) in object.members.iter().rev() {
-        let name = name.as_str();
-        let is_last = counted.insert(name)?;
-        find_in_member(tell, object, (name, part.name), is_last)?;
+/// Adds what is wrong with an object by itself and with each of its members, or that it's none.
+pub(crate) fn find_in_entry(tell: &mut Tell<'_>, entry: &Entry<'_>) -> Done {
+    if !entry.is_object {
+        let (called, _) = entry.kind.called();
+        let why = format_args!("{called} is an object: write {{..}}");
+        return tell.fault(entry, entry.place, DeclFault::BadShape, why);
     }
-    find_lacking(tell, object)
+    let mut counted = IndexSet::new(tell.findings.alloc);
+    for (name, part) in entry.object.members.iter().rev() {
+        let name = name.as_str();
+        if counted.insert(name)? {
+            find_in_member(tell, entry, name, part.name)?;
+        } else {
+            let text = quoted(tell.findings.alloc, name)?;
+            let why = "is given again later, and only the last one counts: remove one";
+            tell.odd(part.name, "", format_args!("{text} {why}"))?;
+        }
+    }
+    find_lacking(tell, entry)
 }
 
-/// Adds what is wrong with a member, which may be given again later.
-fn find_in_member(
-    tell: &mut Tell<'_>,
-    object: &Object<'_>,
-    (name, span): (&str, Span),
-    is_last: bool,
-) -> Done {
-    let known = names_of(tell.kind);
-    if !is_last {
-        let text = quoted(tell.findings.alloc, name)?;
-        let why = "is given again later, and only the last one counts: remove one";
-        return tell.odd(span, "", format_args!("{text} {why}"));
-    }
-    if tell.kind == Kind::Anacron && name == "mode" {
+/// Adds what is wrong with a member, of which that name stands there.
+fn find_in_member(tell: &mut Tell<'_>, entry: &Entry<'_>, name: &str, span: Span) -> Done {
+    let (_, known) = entry.kind.called();
+    if entry.kind == Kind::Anacron && name == "mode" {
         let why = "remove \"mode\": anacron jobs take no lock";
-        return tell.fault(span, DeclFault::ModeOnAnacron, why);
+        return tell.fault(entry, span, DeclFault::ModeOnAnacron, why);
     }
     if !is_among(known, name) {
-        return find_none(tell, span, name, ("unknown", known, "known are"));
+        return find_none(
+            &mut tell.findings,
+            span,
+            name,
+            ("unknown", known, "known are"),
+        );
     }
-    match object.member(name) {
-        Some((value, place)) => find_in_value(tell, name, value, place),
+    match entry.object.member(name) {
+        Some(part) => find_in_value(tell, entry, name, part),
         None => Ok(()),
     }
 }

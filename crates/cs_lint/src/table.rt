@@ -55,33 +55,28 @@ impl<'a> Begun<'a> {
         word_from(Span::of(0, end).bytes(bytes), end.saturating_sub(command))
     }
 
+    /// Adds that it has no entry, or can't be in a plan.
     fn find_misfit(&self, findings: &mut Findings, declared: &Declared<'_>) -> Done {
-        let number = self.number;
-        let (fault, why) = match &self.when {
-            None => return self.find_undeclared_job(findings, declared),
-            Some(When::Reboot) if declared.keeps_line(number) => {
+        let (number, line) = (self.number, i128::from(self.number));
+        let is_kept = declared.has_all_left_out && !declared.left_out.contains(&line);
+        let is_lacking = declared.has_all_lines && !declared.lines.contains(&line);
+        let (fault, why) = match (&self.when, self.name) {
+            (None, Some(name)) if declared.lacks_job(name) => {
+                let (fault, name) = (DeclFault::Undeclared, shown(findings.alloc, name)?);
+                let why = "\"anacron\" has no entry for this job: add one";
+                return findings.fault(self.place, format_args!("{fault} at job {name}: {why}"));
+            }
+            (Some(When::Reboot), _) if is_kept => {
                 let why = "put it into \"left_out\": outages would start it without bound";
                 (DeclFault::RebootLine, why)
             }
-            Some(When::At(_)) if declared.lacks_line(number) => {
+            (Some(When::At(_)), _) if is_lacking => {
                 let why = "\"cron\" has no entry for this line: add one";
                 (DeclFault::Undeclared, why)
             }
             _ => return Ok(()),
         };
-        let words = format_args!("{fault} at line {number}: {why}");
-        findings.fault(self.place, words)
-    }
-
-    fn find_undeclared_job(&self, findings: &mut Findings, declared: &Declared<'_>) -> Done {
-        match self.name {
-            Some(name) if declared.lacks_job(name) => {
-                let (fault, name) = (DeclFault::Undeclared, shown(findings.alloc, name)?);
-                let why = "\"anacron\" has no entry for this job: add one";
-                findings.fault(self.place, format_args!("{fault} at job {name}: {why}"))
-            }
-            _ => Ok(()),
-        }
+        findings.fault(self.place, format_args!("{fault} at line {number}: {why}"))
     }
 }
 
@@ -121,23 +116,8 @@ impl<'a> Table<'a> {
         kind: Kind,
         wanted: Wanted<'a>,
     ) -> Result<Self, AllocError> {
-        let findings = Findings::new(alloc, bytes)?;
-        let mut table = Table::with(findings, bytes, places, kind, wanted);
-        table.look_at_all(bytes)?;
-        Ok(table)
-    }
-
-    /// A table in which nothing is looked at yet.
-    fn with(
-        findings: Findings,
-        bytes: &'a [u8],
-        places: &'a [Place],
-        kind: Kind,
-        wanted: Wanted<'a>,
-    ) -> Self {
-        let alloc = findings.alloc;
-        Table {
-            findings,
+        let mut table = Table {
+            findings: Findings::new(alloc, bytes)?,
             wanted,
             kind,
             line: bytes,
@@ -150,12 +130,9 @@ impl<'a> Table<'a> {
             is_whole: bytes.len() <= MAX_TABLE,
             is_read: true,
             places,
-        }
-    }
-
-    /// What was found in it.
-    pub(crate) fn into_findings(self) -> Findings {
-        self.findings
+        };
+        table.look_at_all(bytes)?;
+        Ok(table)
     }
 
     fn look_at_all(&mut self, bytes: &'a [u8]) -> Done {
@@ -164,30 +141,19 @@ impl<'a> Table<'a> {
             return self.fault(Span::of(MAX_TABLE, 1), LineFault::TooLong.text(), why);
         }
         for line in bytes.split(|byte| *byte == b'\n') {
-            self.look_at_next(line)?;
+            self.line = line;
+            self.number = self.number.saturating_add(1);
+            match self.kind {
+                Kind::Crontab => self.look_at_line()?,
+                Kind::Anacrontab => self.look_at_job_line()?,
+            }
+            self.find_too_many()?;
+            self.start = self.start.saturating_add(line.len()).saturating_add(1);
         }
         if self.kind == Kind::Crontab {
             self.find_user(bytes)?;
-            self.find_no_newline(bytes)?;
         }
-        Ok(())
-    }
-
-    fn look_at_next(&mut self, line: &'a [u8]) -> Done {
-        self.line = line;
-        self.number = self.number.saturating_add(1);
-        match self.kind {
-            Kind::Crontab => self.look_at_line()?,
-            Kind::Anacrontab => self.look_at_job_line()?,
-        }
-        self.find_too_many()?;
-        self.start = self.start.saturating_add(line.len()).saturating_add(1);
-        Ok(())
-    }
-
-    /// Adds that a table ends without a newline.
-    fn find_no_newline(&mut self, bytes: &[u8]) -> Done {
-        if bytes.is_empty() || bytes.ends_with(b"\n") {
+        if self.kind == Kind::Anacrontab || bytes.is_empty() || bytes.ends_with(b"\n") {
             return Ok(());
         }
         let why = "Debian's cron takes no table without a newline at its end: add one";

@@ -2,7 +2,7 @@
 ghost use Rattle.std.specs.Prelude.{◌≡◌, ◌<◌, ◌≤◌, length, IfSome, false};
 ghost use Rattle.std.specs.Option.{option_map};
 ghost use Rattle.cs_lint.specs.OddLines.{ends_in_comment, from_behind, from_percent, in_front};
-ghost use Rattle.cs_lint.specs.OddLines.{is_background, is_commented, is_long, is_quoting};
+ghost use Rattle.cs_lint.specs.OddLines.{is_background, is_commented, is_quoting};
 
 use crate::setting::begins_comment;
 use cs_table::text::{is_blank, trim_end};
@@ -42,13 +42,6 @@ fn in_front(text: &[u8]) -> &[u8]
 {
     let behind = from_percent(text);
     &text[..text.len() - behind.len()]
-}
-
-/// Whether it has more bytes than a command has in Debian's cron.
-pub(crate) fn is_long(command: &[u8]) -> bool
-    ensures { result ≡ is_long command.now }
-{
-    command.len() > MAX_COMMAND
 }
 
 /// Whether the shell is left at once, while what it ran last goes on.

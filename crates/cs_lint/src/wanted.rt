@@ -1,13 +1,13 @@
 //! Which odd findings are told.
 ghost use Rattle.std.specs.Prelude.{◌≡◌, ◌||◌, OnOk};
-ghost use Rattle.cs_lint.specs.Wanted.{has_name, is_wanted};
+ghost use Rattle.cs_lint.specs.Wanted.{is_wanted};
 
 use cs_diagnostics::{Done, Findings, Span};
 use std::fmt::Display;
 
 /// Which odd findings are told, by the names that `cronsafe explain` lists. One without a name has
 /// the empty one. Faults are always told.
-#[derive(Clone, Copy, Debug)]
+#[derive(Clone, Copy)]
 pub struct Wanted<'a> {
     /// These alone; all where there are none.
     pub only: &'a [&'a str],
@@ -15,12 +15,6 @@ pub struct Wanted<'a> {
     pub except: &'a [&'a str],
     /// None at all.
     pub faults_only: bool,
-}
-
-fn has_name(names: &[&str], name: &str) -> bool
-    ensures { result ≡ has_name names.now name.now }
-{
-    names.contains(&name)
 }
 
 impl Wanted<'_> {
@@ -31,7 +25,7 @@ impl Wanted<'_> {
         if self.faults_only {
             return false;
         }
-        (self.only.is_empty() || has_name(self.only, name)) && !has_name(self.except, name)
+        (self.only.is_empty() || self.only.contains(&name)) && !self.except.contains(&name)
     }
 
     /// Adds something odd of that name, where it's told, and why it's odd.

@@ -5,7 +5,7 @@ ghost use Rattle.cs_lint.specs.declared.zone_fault.ZoneFault.TheVariants.{OutOfM
 use std::alloc::{AllocError, AllocFailed};
 
 /// Why the changes of a zone's clocks can't be told.
-#[derive(Clone, Copy, Debug, PartialEq, Eq)]
+#[derive(Clone, Copy, PartialEq, Eq)]
 pub enum ZoneFault {
     /// The bytes are no time zone file (RFC 9636).
     NoZone,

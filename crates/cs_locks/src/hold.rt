@@ -1,5 +1,5 @@
 /// How a run holds the lock of its group, or waits for it (`flock(1)`).
-#[derive(Clone, Copy, Debug, PartialEq, Eq)]
+#[derive(Clone, Copy, PartialEq, Eq)]
 pub enum Hold {
     /// The run takes no lock.
     Nothing,

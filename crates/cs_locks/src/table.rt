@@ -11,7 +11,7 @@ const GROUPS: usize = 64;
 
 /// For each group how many runs hold its lock, or wait for it, exclusively, and how many share it.
 /// No call allocates, and each takes the same time, however many runs are counted.
-#[derive(Debug, Drop)]
+#[derive(Drop)]
 pub struct LockTable {
     alone: [u64; GROUPS],
     shared: [u64; GROUPS],

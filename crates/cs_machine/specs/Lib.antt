@@ -14,4 +14,3 @@ pub mod Shell
 pub mod StartText
 pub mod Starts
 pub mod State
-pub mod StateText

@@ -1,9 +1,12 @@
 -- What a crontab has due next.
-use Rattle.std.specs.Prelude.{◌≡◌, ℕ, ◌/◌, ◌%◌, ◌≤◌, ◌<◌, Bool, false, List, Option, Some, None, is_some}
+use Rattle.std.specs.Prelude.{◌≡◌, ℕ, ◌+◌, ◌/◌, ◌%◌, ◌≤◌, ◌<◌, if◌then◌else◌, Bool, false, List, Option, Some, None, MatchOption, is_some}
 use Rattle.std.specs.List.{find}
 use Rattle.cs_civil.specs.Calendar.{Kind, kind, last_minute}
 use Rattle.cs_schedule.specs.Times.{Times, is_due}
+use Rattle.cs_machine.specs.Passing.{clock_minute}
+use Rattle.cs_machine.specs.declared.next_due.NextDue.{NextDue}
 use Rattle.cs_machine.specs.declared.setup.JobNote.{JobNote}
+use Rattle.cs_machine.specs.declared.setup.Setup.{Setup}
 
 -- whether a line is due at this minute of a day of this kind; a job without a line never is
 abbrev pub is_due_on : Option Times → Kind → ℕ → Bool
@@ -25,3 +28,16 @@ pub record IsFirstDue (jobs : List JobNote) (from end : ℕ) (note : JobNote) (m
   pub within : (from ≤ minute) × (minute < end)
   pub due : due_at minute jobs ≡ Some note
   pub before : IsQuiet jobs from minute
+
+-- what is due first in the 8 days behind a minute; nothing without a minute
+abbrev pub IsNextBehind : List JobNote → Option ℕ → Option NextDue → Type 0
+IsNextBehind jobs None next = next ≡ None
+IsNextBehind jobs (Some after) next =
+    MatchOption next (IsQuiet jobs (after + 1) (after + 11_521))
+    (λ due. IsFirstDue jobs (after + 1) (after + 11_521) due.note.now due.minute)
+
+-- what a daemon that was begun so tells in a second as due next: what is due first behind the minute
+-- that the operator's clock shows, and nothing where it starts nothing more
+abbrev pub TellsNext : Setup → Bool → ℕ → Option NextDue → Type 0
+TellsNext setup is_stopping at next =
+    IsNextBehind setup.jobs.now (if is_stopping then None else clock_minute setup.offset at) next

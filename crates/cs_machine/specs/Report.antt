@@ -1,7 +1,5 @@
 -- What is wrong with what a daemon told of itself.
-use Rattle.std.specs.Prelude.{ℕ, ◌+◌, nat_le, nat_lt, Bool, false, ◌&&◌, ◌||◌, not, List, Option, None, Some}
-use Rattle.std.specs.List.{list_any}
-use Rattle.cs_machine.specs.declared.report.ToldRun.{ToldRun}
+use Rattle.std.specs.Prelude.{ℕ, ◌+◌, nat_le, nat_lt, Bool, false, ◌&&◌, ◌||◌, not, Option, None, Some}
 
 -- whether it was told more than two minutes before now, by a daemon that still starts runs
 abbrev pub is_old : Bool → ℕ → ℕ → Bool
@@ -13,5 +11,5 @@ is_recent at None = false
 is_recent at (Some fault_at) = nat_le at (fault_at + 120)
 
 -- whether that is so, or a run is late
-abbrev pub has_fault : ℕ → Option ℕ → List ToldRun → Bool
-has_fault at fault_at running = is_recent at fault_at || list_any (λ run. run.is_late) running
+abbrev pub has_fault : ℕ → Option ℕ → Bool → Bool
+has_fault at fault_at has_late = is_recent at fault_at || has_late

@@ -1,8 +1,16 @@
 //! The lock of a folder.
-use crate::fault::LockFault;
 use std::fs;
 use std::fs::{File, TryLockError};
 use std::rt::Files;
+
+/// Why a folder can't be locked.
+#[derive(Clone, Copy, PartialEq, Eq)]
+pub enum LockFault {
+    /// Another has locked it.
+    InUse,
+    /// It can't be opened or locked.
+    Failed,
+}
 
 /// An exclusive lock on a folder itself (flock(2)): as long as it lives, nobody else gets one. The
 /// machine frees it when the process ends, however that ends.

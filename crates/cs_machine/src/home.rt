@@ -1,8 +1,7 @@
 //! The user whose commands are run, and the user's folder.
 ghost use Rattle.std.specs.Prelude.{◌≡◌, IfOk, length, option_map};
 ghost use Rattle.std.specs.List.{find};
-ghost use Rattle.std.specs.Option.{option_copied};
-ghost use Rattle.cs_machine.specs.Home.{fields_of, home_of, home_on, is_entry_of, is_same};
+ghost use Rattle.cs_machine.specs.Home.{fields_of, home_of, home_on, is_entry_of};
 ghost use Rattle.cs_machine.specs.Home.{lines_of};
 
 use crate::pieces::piece;
@@ -102,14 +101,11 @@ fn entry_of<'t>(number: &[u8], text: &'t [u8]) -> Option<&'t [u8]>
 fn is_entry_of(number: &[u8], line: &[u8]) -> bool
     ensures { result ≡ is_entry_of number.now line.now }
 {
-    field_count(line) == FIELDS && is_same(number, piece(line, COLON, NUMBER))
-}
-
-fn is_same(wanted: &[u8], field: Option<&[u8]>) -> bool
-    ensures { result ≡ is_same wanted.now (option_copied field.entry) }
-{
-    match field {
-        Some(field) => field == wanted,
+    if field_count(line) != FIELDS {
+        return false;
+    }
+    match piece(line, COLON, NUMBER) {
+        Some(field) => field == number,
         None => false,
     }
 }

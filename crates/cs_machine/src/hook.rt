@@ -30,16 +30,6 @@ pub fn call_hook<P: Processes>(
     err: Stderr,
 ) -> io::Result<()> {
     let mut shell = hook_command(alloc, command, variables)?;
-    run_shell(processes, &mut shell, out, err)
-}
-
-/// Runs a shell without input, with these streams, and waits for its end.
-fn run_shell<P: Processes>(
-    processes: &P,
-    shell: &mut Command,
-    out: Stdout,
-    err: Stderr,
-) -> io::Result<()> {
     shell.stdin(Stdio::null());
     shell.stdout(Stdio::from(out));
     shell.stderr(Stdio::from(err));

@@ -1,9 +1,9 @@
 //! What happened to a run, for which a command of the operator's is started.
 ghost use Rattle.std.specs.Prelude.{◌≡◌, ◌++◌, ◌==◌, ℕ, List, false, codes, IfOk, IfSome};
-ghost use Rattle.std.specs.Prelude.{IsNone, OnErr, OnOk};
+ghost use Rattle.std.specs.Prelude.{IsNone};
 ghost use Rattle.std.specs.List.{list_any};
 ghost use Rattle.std.specs.Result.{is_ok};
-ghost use Rattle.cs_machine.specs.HookCall.{EndsBy, Keeps, Tells, TellsEnd, TellsFailure, TellsSignal};
+ghost use Rattle.cs_machine.specs.HookCall.{EndsBy, Tells, TellsEnd, TellsFailure, TellsSignal};
 ghost use Rattle.cs_machine.specs.RunLog.{IsCalled};
 ghost use Rattle.cs_machine.specs.declared.hook_call.HookCall.{HookCall as TheCall};
 
@@ -117,28 +117,8 @@ fn call_of(alloc: Global, words: &[u8], jobs: &[JobNote]) -> Result<Option<HookC
     Ok(Some(HookCall::Failure { run, status }))
 }
 
-/// Keeps what a line tells that is called for, unless 256 calls are kept. The only error is out of
-/// memory, and then it isn't kept.
-fn keep_call(
-    alloc: Global,
-    calls: &mut Vec<HookCall>,
-    words: &[u8],
-    jobs: &[JobNote],
-) -> Result<(), AllocError>
-    ensures ok { OnOk result (Keeps words.now jobs.now calls.old.items calls.new.items) }
-    ensures err { OnErr result (calls.new.items ≡ calls.old.items) }
-{
-    let Some(call) = call_of(alloc, words, jobs)? else {
-        return Ok(());
-    };
-    if calls.len() < MOST {
-        calls.push(call)?;
-    }
-    Ok(())
-}
-
-/// Keeps what a line tells that is called for, for a daemon with hooks. The only error is out of
-/// memory, and then it isn't kept.
+/// Keeps what a line tells that is called for, for a daemon with hooks, unless 256 calls are kept. The
+/// only error is out of memory, and then it isn't kept.
 pub(crate) fn note_call(
     alloc: Global,
     calls: &mut Vec<HookCall>,
@@ -147,9 +127,14 @@ pub(crate) fn note_call(
 ) -> Result<(), AllocError>
     ensures { IsCalled setup.now words.now (is_ok result) calls.old.items calls.new.items }
 {
-    if setup.has_hooks {
-        keep_call(alloc, calls, words, setup.jobs)
-    } else {
-        Ok(())
+    if !setup.has_hooks {
+        return Ok(());
     }
+    let Some(call) = call_of(alloc, words, setup.jobs)? else {
+        return Ok(());
+    };
+    if calls.len() < MOST {
+        calls.push(call)?;
+    }
+    Ok(())
 }

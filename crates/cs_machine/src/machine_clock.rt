@@ -10,10 +10,9 @@ ghost use Rattle.cs_machine.specs.declared.attendant.ClockBack.{ClockBack};
 ghost use Rattle.cs_machine.specs.Passing.{clock_minute, held, is_behind, IsBackAt, IsMoved, latest, shown};
 
 use crate::attendant::{Attendant, ClockBack};
-use crate::seconds::unix_seconds;
 use cs_civil::{Minute, minute_at};
 use cs_device::{Clock, Tick, Told};
-use std::time::Duration;
+use std::time::{Duration, SystemTime};
 use std::{thread, time};
 
 /// The most minutes that the machine's clock can be put back and is waited for.
@@ -99,11 +98,6 @@ impl<'r, R: time::Clock, A: Attendant> MachineClock<'r, R, A> {
         self.offset
     }
 
-    /// The minute that it is now.
-    fn minute(&self) -> Option<Minute> {
-        minute_after(unix_seconds(self.rt)?, self.offset)
-    }
-
     /// The clock's first answer.
     fn begin(&mut self) -> Tick
         ensures resumed { IfSome self.old.latest
@@ -131,7 +125,10 @@ impl<'r, R: time::Clock, A: Attendant> MachineClock<'r, R, A> {
     fn look(&mut self) -> Tick
         ensures { self.new.told ≡ self.old.told }
     {
-        let Some(minute) = self.minute() else {
+        let Some(seconds) = unix_seconds(self.rt) else {
+            return Tick::Failed;
+        };
+        let Some(minute) = minute_after(seconds, self.offset) else {
             return Tick::Failed;
         };
         self.watch(minute);
@@ -234,6 +231,13 @@ fn is_near(latest: Minute, minute: Minute) -> bool
     ensures { IsTrue result ↔ (latest - minute ≤ 60) }
 {
     latest.number().saturating_sub(minute.number()) <= LONGEST_WAIT
+}
+
+/// The whole seconds since 1970-01-01 00:00 UTC, if the machine's clock can be read.
+pub fn unix_seconds<R: time::Clock>(rt: &R) -> Option<u64> {
+    let now = SystemTime::now(rt).ok()?;
+    let since = now.duration_since(SystemTime::UNIX_EPOCH).ok()?;
+    Some(since.as_secs())
 }
 
 /// The minute this many seconds after 1970-01-01 00:00 UTC, if it is in range.

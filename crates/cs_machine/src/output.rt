@@ -156,21 +156,16 @@ fn keep_first(names: &mut Vec<String>, left: u64) -> Result<(), AllocError>
     Ok(())
 }
 
-/// Opens a file for appending, and makes it if it isn't there. What is no file isn't opened: a pipe
-/// would keep the daemon waiting.
-fn open_file<R: Files>(rt: &R, path: &str) -> io::Result<R::File> {
+/// Opens a file for appending, with two handles, and makes it if it isn't there. What is no file
+/// isn't opened: a pipe would keep the daemon waiting.
+fn open_twice<R: Files>(rt: &R, path: &str) -> io::Result<(R::File, R::File)> {
     match fs::symlink_metadata(rt, path) {
         Ok(found) if found.is_file() => {}
         Ok(_) => return Err(io::Error::new(ErrorKind::InvalidInput, "no regular file is there")),
         Err(error) if error.kind() == ErrorKind::NotFound => {}
         Err(error) => return Err(error),
     }
-    OpenOptions::new().append(true).create(true).open(rt, path)
-}
-
-/// The same, with a second handle of the file.
-fn open_twice<R: Files>(rt: &R, path: &str) -> io::Result<(R::File, R::File)> {
-    let file = open_file(rt, path)?;
+    let file = OpenOptions::new().append(true).create(true).open(rt, path)?;
     let other = file.try_clone()?;
     Ok((file, other))
 }

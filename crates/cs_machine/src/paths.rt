@@ -1,5 +1,5 @@
 //! The paths of the files in a folder.
-ghost use Rattle.std.specs.Prelude.{◌≡◌, ◌↔◌, IsTrue, IsErr, IfOk, string_bytes};
+ghost use Rattle.std.specs.Prelude.{◌≡◌, IsErr, IfOk, string_bytes};
 ghost use Rattle.std.specs.List.{list_any};
 ghost use Rattle.std.specs.Str.{IsUtf8};
 ghost use Rattle.cs_machine.specs.Files.{IsFileName, file_of, is_kept_out, new_file_of};
@@ -17,20 +17,14 @@ fn has_kept_out(bytes: &[u8]) -> bool
         .any(|byte| *byte == b'/' || *byte == b' ' || *byte == b'\t')
 }
 
-/// Whether a text can be the name of a file without blanks, like each identifier of an anacrontab.
-fn is_file_name(name: &str) -> bool
-    ensures { IsTrue result ↔ IsFileName name.now }
-{
-    !matches!(name, "" | "." | "..") && !has_kept_out(name.as_bytes())
-}
-
-/// A name as text. An error exactly if it isn't UTF-8, or can't be the name of a file without blanks.
+/// A name as text. An error exactly if it isn't UTF-8, or can't be the name of a file without blanks,
+/// like each identifier of an anacrontab.
 pub(crate) fn file_name(name: &[u8]) -> io::Result<&str>
     ensures text { IfOk result (λ text. (text.now ≡ name.now) × IsFileName name.now) }
     ensures refused { IsErr result → ¬ (IsUtf8 name.now × IsFileName name.now) }
 {
     match str::from_utf8(name) {
-        Ok(text) if is_file_name(text) => Ok(text),
+        Ok(text) if !matches!(text, "" | "." | "..") && !has_kept_out(name) => Ok(text),
         _ => Err(io::Error::from(ErrorKind::InvalidInput)),
     }
 }

@@ -26,17 +26,6 @@ pub(crate) fn read_first<R: Files>(
     Ok(text)
 }
 
-/// Writes a text to a new file, in place of what is there, and flushes it to the disk.
-fn write_anew<R: Files>(rt: &R, path: &str, text: &[u8]) -> io::Result<()> {
-    remove_file(rt, path)?;
-    let mut file = OpenOptions::new()
-        .write(true)
-        .create_new(true)
-        .open(rt, path)?;
-    file.write_all(text)?;
-    file.sync_all()
-}
-
 /// Writes a text to a new file, flushes it to the disk, renames it to another path in the same
 /// folder, and flushes that too. So a crash leaves the old file there or the new one. What stands in
 /// the new file's place is removed first, and not opened: it may be a pipe or a link.
@@ -47,7 +36,13 @@ pub(crate) fn replace_file<R: Files>(
     path: &str,
     text: &[u8],
 ) -> io::Result<()> {
-    write_anew(rt, new_path, text)?;
+    remove_file(rt, new_path)?;
+    let mut file = OpenOptions::new()
+        .write(true)
+        .create_new(true)
+        .open(rt, new_path)?;
+    file.write_all(text)?;
+    file.sync_all()?;
     fs::rename(rt, new_path, path)?;
     fs::open(rt, folder)?.sync_all()
 }

@@ -58,11 +58,4 @@ impl RequestFile {
     pub fn remove<R: Files>(&self, rt: &R) -> io::Result<()> {
         remove_file(rt, self.path.as_str())
     }
-
-    /// Returns the file's path.
-    pub fn path(&self) -> &str
-        ensures { result.now ≡ string_bytes self.now.path }
-    {
-        self.path.as_str()
-    }
 }

@@ -4,15 +4,13 @@ ghost use Rattle.std.specs.Prelude.{[], true, false};
 ghost use Rattle.std.specs.Io.KnownBytes.{Appends};
 ghost use Rattle.cs_machine.specs.RunLog.{Follows, IsCalled, NotesLine, line_text};
 ghost use Rattle.cs_machine.specs.Starts.{span_of};
-ghost use Rattle.cs_machine.specs.NextDue.{IsQuiet};
+ghost use Rattle.cs_machine.specs.NextDue.{IsQuiet, TellsNext};
 ghost use Rattle.cs_machine.specs.State.{Begins, Stops, Takes};
-ghost use Rattle.cs_machine.specs.StateText.{TellsNext};
 
 use crate::hook_call::{HookCall, note_call};
 use crate::line_text::{push_line, push_meeting};
-use crate::machine_clock::minute_after;
+use crate::machine_clock::{minute_after, unix_seconds};
 use crate::next_due::{NextDue, QuietTime, next_due};
-use crate::seconds::unix_seconds;
 use crate::setup::Setup;
 use crate::starts::Noted;
 use crate::state::State;

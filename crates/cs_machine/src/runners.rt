@@ -1,6 +1,6 @@
 //! Runners for a daemon.
 ghost use Rattle.std.specs.Prelude.{◌≡◌, All, IfOk, vec_len};
-ghost use Rattle.cs_machine.specs.Runners.{IsMadeBy, IsOutputOf};
+ghost use Rattle.cs_machine.specs.Runners.{IsMadeBy};
 
 use crate::output::OutputFolder;
 use std::alloc::{AllocError, Global};
@@ -30,16 +30,6 @@ pub struct RunnerSetup {
     pub output: Option<OutputFolder>,
 }
 
-/// The folder for the output, if there is one. The only error is out of memory.
-fn output_of(alloc: Global, words: RunnerWords<'_>) -> Result<Option<OutputFolder>, AllocError>
-    ensures { IfOk result (IsOutputOf words.entry) }
-{
-    match words.output {
-        Some(path) => Ok(Some(OutputFolder::new(alloc, path, words.keep)?)),
-        None => Ok(None),
-    }
-}
-
 /// Makes a runner by these words. The only error is out of memory.
 fn runner_by<W: Drop, F: Fn(RunnerSetup) -> W + Drop>(
     alloc: Global,
@@ -49,10 +39,14 @@ fn runner_by<W: Drop, F: Fn(RunnerSetup) -> W + Drop>(
     requires { F.IsAlwaysCallable new_runner.now }
     ensures { IfOk result (IsMadeBy (F.post new_runner.now) words.entry) }
 {
+    let output = match words.output {
+        Some(path) => Some(OutputFolder::new(alloc, path, words.keep)?),
+        None => None,
+    };
     Ok(new_runner(RunnerSetup {
         has_home: words.has_home,
         tells_signals: words.tells_signals,
-        output: output_of(alloc, words)?,
+        output,
     }))
 }
 

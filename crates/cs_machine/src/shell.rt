@@ -10,14 +10,22 @@ ghost use Rattle.std.specs.Process.{clears_env, SameProgramAndArgs, SameDir, Sam
 ghost use Rattle.cs_machine.specs.Shell.{are_texts, is_setting, is_text_home, with_shell, value_of};
 ghost use Rattle.cs_machine.specs.Shell.{shell_name, shell_words, value_after, value_with};
 ghost use Rattle.cs_machine.specs.Shell.{folder_of, user_settings, usual_settings};
-ghost use Rattle.cs_machine.specs.declared.fault.CommandFault.TheVariants.{NotText as not_text};
+ghost use Rattle.cs_machine.specs.declared.shell.CommandFault.TheVariants.{NotText as not_text};
 
-use crate::fault::CommandFault;
 use crate::home::Home;
 use cs_civil::Bytes;
 use std::alloc::Global;
 use std::process::Command;
 use std::str;
+
+/// Why a command can't be set up.
+#[derive(Clone, Copy, PartialEq, Eq)]
+pub enum CommandFault {
+    /// The command or a setting is not UTF-8 (this profile).
+    NotText,
+    /// Memory ran out.
+    OutOfMemory,
+}
 
 /// The setting that names the shell (crontab(5)).
 const SHELL: &str = "SHELL";

@@ -152,22 +152,6 @@ impl<'r, P: Processes + Files<File = File> + Wait> ShellRunner<'r, P> {
         }
     }
 
-    /// Sets what a run has as its standard streams. Its input is a pipe, or the null device if it has
-    /// none.
-    fn set_streams(&self, shell: &mut Command, run: &[u8], has_input: bool) {
-        shell.stdin(if has_input {
-            Stdio::piped()
-        } else {
-            Stdio::null()
-        });
-        let (out, err) = match self.open_output(run) {
-            Some((out, err)) => (Stdio::from(out), Stdio::from(err)),
-            None => (Stdio::from(self.out), Stdio::from(self.err)),
-        };
-        shell.stdout(out);
-        shell.stderr(err);
-    }
-
     /// Starts a command, whose input is a pipe, or the null device if it has none. If it can't,
     /// tells why.
     fn start(
@@ -184,7 +168,17 @@ impl<'r, P: Processes + Files<File = File> + Wait> ShellRunner<'r, P> {
                 return None;
             }
         };
-        self.set_streams(&mut shell, run, has_input);
+        shell.stdin(if has_input {
+            Stdio::piped()
+        } else {
+            Stdio::null()
+        });
+        let (out, err) = match self.open_output(run) {
+            Some((out, err)) => (Stdio::from(out), Stdio::from(err)),
+            None => (Stdio::from(self.out), Stdio::from(self.err)),
+        };
+        shell.stdout(out);
+        shell.stderr(err);
         match shell.spawn(self.processes) {
             Ok(child) => Some(child),
             Err(error) => {

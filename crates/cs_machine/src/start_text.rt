@@ -3,7 +3,7 @@ ghost use Rattle.std.specs.Prelude.{◌≡◌, ◌++◌, IfOk, OnOk};
 ghost use Rattle.std.specs.Option.{option_copied};
 ghost use Rattle.cs_machine.specs.StartText.{error_line, place_text, remark_text, start_text};
 
-use crate::fault::CommandFault;
+use crate::shell::CommandFault;
 use cs_place::push_shown;
 use std::alloc::{AllocError, Global};
 

@@ -73,13 +73,6 @@ pub(crate) fn tells(words: &[u8], what: &[u8], name: &[u8]) -> bool
     words.starts_with(what) && name == &words[what.len()..]
 }
 
-/// Whether the words tell that the run of this name couldn't be started.
-fn is_no_start_of(words: &[u8], name: &[u8]) -> bool
-    ensures { result ≡ is_no_start_of words.now name.now }
-{
-    tells(words, b"not started ", name)
-}
-
 /// For how many seconds a run took whose end the words tell in this second, and that started in that
 /// one: 0 where the clock was put back. None for any other words, and where either isn't known.
 fn span(words: &[u8], at: Option<u64>, started: Option<u64>) -> Option<u64>
@@ -170,5 +163,5 @@ fn place_of(runs: &[(Bytes, u64)], words: &[u8]) -> Option<usize>
 pub(crate) fn is_last_of(words: &[u8], name: &[u8]) -> bool
     ensures { result ≡ is_last_of words.now name.now }
 {
-    is_end_of(words, name) || is_no_start_of(words, name)
+    is_end_of(words, name) || tells(words, b"not started ", name)
 }

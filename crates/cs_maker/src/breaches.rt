@@ -9,7 +9,7 @@ use std::alloc::{AllocError, Global};
 
 /// A rule that the windows of a stretch break, and the first minute of its last day at which they
 /// do.
-#[derive(Clone, Copy, Debug, PartialEq, Eq)]
+#[derive(Clone, Copy)]
 pub(crate) struct Found {
     pub(crate) rule: Rule,
     pub(crate) minute: u16,
@@ -44,25 +44,18 @@ pub(crate) fn broken_by(
     Ok(None)
 }
 
-/// Whether the days from this place on begin with these profiles.
-fn begins_with(days: &[u16], place: usize, profiles: &[u16]) -> bool {
-    match days.get(place..) {
-        Some(days) => days.starts_with(profiles),
-        None => false,
-    }
-}
-
 /// The first civil day from 2024-01-01 on that is the last of days with these profiles, counted
 /// from 1970-01-01. There is one within 28 years; otherwise this is the calendar's first day.
 pub(crate) fn last_day(calendar: &Calendar, profiles: &[u16]) -> u64 {
     let days = calendar.profiles();
     let days_before = profiles.len().saturating_sub(1);
     let first = DAYS_BEFORE.saturating_sub(days_before);
-    let place = (first..days.len()).find(|place| begins_with(days, *place, profiles));
-    match place {
-        Some(place) => calendar.day_at(place.saturating_add(days_before)),
-        None => calendar.first_day(),
+    for place in first..days.len() {
+        if days[place..].starts_with(profiles) {
+            return calendar.day_at(place.saturating_add(days_before));
+        }
     }
+    calendar.first_day()
 }
 
 /// The civil minute with this number on a day.
@@ -71,42 +64,27 @@ fn minute_on(day: u64, minute: u16) -> u64 {
         .saturating_add(u64::from(minute))
 }
 
-/// The civil minutes of a window as seen from this day.
-fn span_on(day: u64, window: &Window) -> Span {
-    let from = minute_on(day.saturating_sub(u64::from(window.day_back)), window.from);
-    Span {
-        job: window.job,
-        from,
-        to: from.saturating_add(u64::from(window.reach)),
-    }
-}
-
-/// The civil minutes of the windows that hold this minute of a day.
-fn held_at(
-    alloc: Global,
-    day: u64,
-    windows: &[Window],
-    minute: u16,
-) -> Result<Vec<Span>, AllocError> {
-    let mut held = Vec::new(alloc);
-    for window in windows {
-        if touches(window, minute, minute.saturating_add(1)) {
-            held.push(span_on(day, window))?;
-        }
-    }
-    Ok(held)
-}
-
-/// The breach in these windows of the stretch up to this day. The only error is out of memory.
+/// The breach in these windows of the stretch up to this day, with those that hold its minute. The only error is out of memory.
 pub(crate) fn breach_on(
     alloc: Global,
     day: u64,
     windows: &[Window],
     found: Found,
 ) -> Result<Breach, AllocError> {
+    let mut held = Vec::new(alloc);
+    for window in windows {
+        if touches(window, found.minute, found.minute.saturating_add(1)) {
+            let from = minute_on(day.saturating_sub(u64::from(window.day_back)), window.from);
+            held.push(Span {
+                job: window.job,
+                from,
+                to: from.saturating_add(u64::from(window.reach)),
+            })?;
+        }
+    }
     Ok(Breach {
         rule: found.rule,
         at: minute_on(day, found.minute),
-        held: held_at(alloc, day, windows, found.minute)?,
+        held,
     })
 }

@@ -45,11 +45,6 @@ fn kinds_until(last_day: u64, days: u8) -> Chain {
     kinds
 }
 
-/// How many steps it takes to compare these windows with each minute of a day.
-fn steps_by_minute(windows: &[Window]) -> u64 {
-    (windows.len() as u64).saturating_mul(u64::from(MINUTES_OF_DAY))
-}
-
 /// Windows no shorter than the exact ones, and the days of their stretches.
 #[derive(Drop)]
 struct Bounded<'a> {
@@ -79,7 +74,9 @@ fn breach_until(
     if quiet.by_all() {
         return Ok(None);
     }
-    *steps = steps.saturating_sub(steps_by_minute(windows.as_slice()));
+    // each window is compared with each minute of a day
+    let compared = (windows.len() as u64).saturating_mul(u64::from(MINUTES_OF_DAY));
+    *steps = steps.saturating_sub(compared);
     let exact = waits.cut(alloc, last_day, bounded.days, windows.as_slice())?;
     match broken_by(alloc, search, quiet, exact.as_slice())? {
         Some(found) => Ok(Some(breach_on(alloc, last_day, exact.as_slice(), found)?)),

@@ -3,7 +3,7 @@ ghost use Rattle.std.specs.Prelude.{◌≤◌, length};
 
 use crate::maker::Maker;
 use crate::stretches::{Stretches, days_of, stretches_by};
-use cs_certify::{Bounds, certificate, stretch};
+use cs_certify::{certificate, stretch};
 use cs_civil::Sequence;
 use cs_claims::{Certificate, MAX_CERTIFICATE, MAX_CLASSES, Stretch, least_text};
 use cs_classes::occupied;
@@ -59,38 +59,29 @@ fn with_windows(
     Ok(listed)
 }
 
-/// The certificate that lists the windows of these bounds, if a file can hold it.
-fn listed_by(
-    alloc: Global,
-    maker: &Maker<'_>,
-    bounds: &Bounds,
-) -> Result<Option<Certificate>, AllocError> {
-    let classing = &bounds.classing;
-    if classing.classes.len() > MAX_CLASSES {
-        return Ok(None);
-    }
-    let reaches = bounds.reaches.as_slice();
-    let occupied = occupied(alloc, maker.plan, reaches)?;
-    let days = days_of(occupied.as_slice());
-    let in_use = stretches_by(alloc, days, classing.class_of.as_slice())?;
-    if least_entries(&maker.facts, classing, &in_use) >= MAX_CERTIFICATE as u64 {
-        return Ok(None);
-    }
-    let stretches = with_windows(alloc, occupied.as_slice(), &in_use)?;
-    match certificate(alloc, &maker.facts, classing, stretches, reaches)? {
-        Ok(listed) if least_text(&listed) < MAX_CERTIFICATE as u64 => Ok(Some(listed)),
-        _ => Ok(None),
-    }
-}
-
 impl Maker<'_> {
     /// Returns the certificate of the least bounds that lists their windows, which is of version 1
     /// or 2: the caller has it checked. None if there are no bounds, or no file can hold it. The
     /// only error is out of memory.
     pub fn listed(&self, alloc: Global) -> Result<Option<Certificate>, AllocError> {
-        match &self.bounds {
-            Some(bounds) => listed_by(alloc, self, bounds),
-            None => Ok(None),
+        let Some(bounds) = &self.bounds else {
+            return Ok(None);
+        };
+        let classing = &bounds.classing;
+        if classing.classes.len() > MAX_CLASSES {
+            return Ok(None);
+        }
+        let reaches = bounds.reaches.as_slice();
+        let occupied = occupied(alloc, self.plan, reaches)?;
+        let days = days_of(occupied.as_slice());
+        let in_use = stretches_by(alloc, days, classing.class_of.as_slice())?;
+        if least_entries(&self.facts, classing, &in_use) >= MAX_CERTIFICATE as u64 {
+            return Ok(None);
+        }
+        let stretches = with_windows(alloc, occupied.as_slice(), &in_use)?;
+        match certificate(alloc, &self.facts, classing, stretches, reaches)? {
+            Ok(listed) if least_text(&listed) < MAX_CERTIFICATE as u64 => Ok(Some(listed)),
+            _ => Ok(None),
         }
     }
 }

@@ -2,7 +2,7 @@ ghost use Rattle.std.specs.Prelude.{◌≡◌};
 ghost use Rattle.cs_maker.specs.Reason.{reason_name};
 
 /// Why the maker finds neither a certificate nor a script that breaks the plan.
-#[derive(Clone, Copy, Debug, PartialEq, Eq)]
+#[derive(Clone, Copy, PartialEq, Eq)]
 pub enum Reason {
     /// The days have more classes than a certificate can. Not returned: a compact one is made.
     TooManyClasses,

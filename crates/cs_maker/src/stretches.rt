@@ -17,16 +17,6 @@ pub(crate) fn days_of(occupied: &[Occupied<'_>]) -> u8
     stretch_length(occupied).max(2).min(4)
 }
 
-/// The numbers of these days.
-fn numbers_of(alloc: Global, chain: &Chain, by_kind: &[u16]) -> Result<Vec<u16>, AllocError> {
-    let mut numbers = Vec::new(alloc);
-    for kind in chain.as_slice() {
-        let number = by_kind.get(usize::from(kind_number(*kind)));
-        numbers.push(number.copied().unwrap_or(0))?;
-    }
-    Ok(numbers)
-}
-
 /// The stretches of this many successive days, with this number for each kind of day.
 pub(crate) fn stretches_by(
     alloc: Global,
@@ -37,7 +27,11 @@ pub(crate) fn stretches_by(
 {
     let mut stretches = BTreeMap::new(alloc);
     for chain in chains(alloc, days)? {
-        let numbers = numbers_of(alloc, &chain, by_kind)?;
+        let mut numbers = Vec::new(alloc);
+        for kind in chain.as_slice() {
+            let number = by_kind.get(usize::from(kind_number(*kind)));
+            numbers.push(number.copied().unwrap_or(0))?;
+        }
         stretches.insert(numbers, chain)?;
     }
     Ok(stretches)

@@ -1,8 +1,5 @@
 //! The first breach in the windows of a plan, stretch by stretch.
-ghost use Rattle.std.specs.Prelude.{IfOk, ◌≤◌, length};
-ghost use Rattle.cs_windows.specs.Window.{IsRising};
-
-use crate::breaches::{Found, breach_on, broken_by, last_day};
+use crate::breaches::{breach_on, broken_by, last_day};
 use crate::search::Search;
 use crate::stretches::{days_of, stretches_by};
 use cs_civil::MINUTES_OF_DAY;
@@ -10,18 +7,6 @@ use cs_classes::occupied;
 use cs_story::Breach;
 use cs_windows::{JobReach, Window, windows_on};
 use std::alloc::{AllocError, Global};
-
-/// What these windows of a stretch break. The quick test shows for most that they break nothing.
-fn found_in(
-    alloc: Global,
-    search: &Search<'_>,
-    windows: &[Window],
-) -> Result<Option<Found>, AllocError>
-    requires { IsRising windows.now }
-{
-    let quiet = search.roles.quiet(alloc, windows)?;
-    broken_by(alloc, search, quiet, windows)
-}
 
 /// How many steps it takes to compare these windows with the minutes that they hold.
 pub(crate) fn steps_held(windows: &[Window]) -> u64 {
@@ -51,7 +36,9 @@ pub(crate) fn first_breach(
         if *steps == 0 {
             return Ok(None);
         }
-        if let Some(found) = found_in(alloc, search, windows)? {
+        // the quick test shows for most that they break nothing
+        let quiet = search.roles.quiet(alloc, windows)?;
+        if let Some(found) = broken_by(alloc, search, quiet, windows)? {
             let day = last_day(&search.calendar, profiles.as_slice());
             return Ok(Some(breach_on(alloc, day, windows, found)?));
         }

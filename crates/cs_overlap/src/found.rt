@@ -1,6 +1,6 @@
 //! The finders: the first fault in the windows of one stretch. Sums say up to which minute there is
 //! none; from there on each minute is looked at as the rules say.
-ghost use Rattle.std.specs.Prelude.{◌≡◌, ◌≤◌, ◌<◌, ◌&&◌, ◌==◌, ℕ, IfOk, Some, false, find, not, true};
+ghost use Rattle.std.specs.Prelude.{◌≡◌, ◌≤◌, ◌<◌, ◌&&◌, ◌==◌, IfOk, Some, false, find, not, true};
 ghost use Rattle.std.specs.List.{AllByRecursion};
 ghost use Rattle.cs_history.specs.Plan.{is_skip, takes};
 ghost use Rattle.cs_theorem.specs.Faults.{first_of, first_pair, missing_in};

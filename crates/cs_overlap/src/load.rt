@@ -1,7 +1,7 @@
 //! The load of windows: what they weigh together.
 ghost use Rattle.std.specs.Prelude.{◌≡◌, ℕ, ◌+◌, ◌*◌, ◌^◌, ◌<◌, ◌≤◌, ◌↔◌, IsTrue, max, length, slice_index};
 ghost use Rattle.cs_history.specs.Lists.{total, greatest, below};
-ghost use Rattle.cs_overlap.specs.Roles.{free_weight, alone_weight, shared_weight, catch_weight, most_weight, group_weight, load_by};
+ghost use Rattle.cs_overlap.specs.Roles.{free_weight, alone_weight, shared_weight, catch_weight, most_weight, load_by};
 
 use crate::role::{Role, role_of};
 use cs_windows::Window;

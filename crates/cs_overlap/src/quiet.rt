@@ -11,7 +11,7 @@ use std::alloc::{AllocError, Global};
 
 /// The rules that a quick test finds kept by the windows of a stretch. For any other rule its
 /// finder decides whether there is a fault.
-#[derive(Clone, Copy, Debug, PartialEq, Eq)]
+#[derive(Clone, Copy, PartialEq, Eq)]
 pub struct Quiet {
     /// No two runs of an exclusive group may meet.
     pub is_apart: bool,

@@ -5,7 +5,7 @@ use cs_history::Mode;
 use cs_windows::Window;
 
 /// What the rules need of a job.
-#[derive(Clone, Copy, Debug)]
+#[derive(Clone, Copy)]
 pub(crate) struct Role {
     /// Whether it is a job of the crontab.
     pub(crate) is_cron: bool,

@@ -20,7 +20,7 @@ use std::marker::Model;
 const MANY_WINDOWS: usize = 512;
 
 /// What the rules about windows need of the jobs of a plan: read off once for all stretches.
-#[derive(Debug, Drop)]
+#[derive(Drop)]
 pub struct Roles {
     jobs: Vec<Role>,
     groups: usize,

@@ -12,7 +12,7 @@ use cs_windows::Window;
 use std::alloc::{AllocError, Global};
 
 /// A job's windows in that pass.
-#[derive(Clone, Copy, Debug)]
+#[derive(Clone, Copy)]
 struct Share {
     /// The weight of each for a cron job that takes no lock; else 0.
     weight: u8,

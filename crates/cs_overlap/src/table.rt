@@ -18,7 +18,7 @@ pub(crate) const PLACES: usize = MINUTES + 1;
 pub(crate) const MOST_TALLIED: usize = 16_777_216;
 
 /// What is added for a run: its weight, or one.
-#[derive(Clone, Copy, Debug)]
+#[derive(Clone, Copy)]
 pub(crate) enum Amount {
     /// The weight of a cron job's run that takes no lock.
     FreeWeight,

@@ -6,7 +6,7 @@ ghost use Rattle.cs_table.specs.Text.{lines_of};
 ghost use Rattle.cs_table.specs.declared.limits.TheConstants.{MAX_TABLE};
 ghost use Rattle.cs_crontab.specs.Faults.{IsCrontab};
 ghost use Rattle.cs_place.specs.Places.{before_word, is_among, is_control, is_place, last_word};
-ghost use Rattle.cs_place.specs.Places.{line_told, listed, parts_in, place_in, place_line, place_of, place_text, places_from};
+ghost use Rattle.cs_place.specs.Places.{line_told, parts_in, place_in, place_line, place_of, place_text, places_from};
 ghost use Rattle.cs_place.specs.Places.{places_of, places_told};
 
 use crate::mark::is_gathered;
@@ -18,7 +18,7 @@ use cs_table::text::{first_line, is_blank, trim_end};
 use std::alloc::{AllocError, Global};
 
 /// A line of a gathered table, and the place that it comes from.
-#[derive(Debug, Drop)]
+#[derive(Drop)]
 pub struct Place {
     /// The number of the line in the gathered table, from 1.
     pub line: u32,
@@ -119,7 +119,9 @@ fn place_in(
 #[tactic(auto, unfolding(crate::specs::Places::places_from))]
 pub fn push_places(alloc: Global, places: &mut Vec<Place>, text: &[u8]) -> Result<(), AllocError>
     requires { length text.now ≤ MAX_TABLE }
-    ensures { OnOk result (places.new.items ≡ places.old.items ++ places_from 2 (lines_of text.now)) }
+    ensures { OnOk result (
+        places.new.items ≡ places.old.items ++ places_from 2 (lines_of text.now)
+        ) }
 {
     let mut number = 2u32;
     let mut rest = text;

@@ -1,7 +1,6 @@
-ghost use Rattle.std.specs.Prelude.{◌≡◌, ◌≤◌, ◌++◌, map, true, None, IfOk, OnOk};
+ghost use Rattle.std.specs.Prelude.{◌≡◌, ◌≤◌, ◌++◌, map, None, IfOk, OnOk};
 ghost use Rattle.std.specs.List.{find, range_with_len};
 ghost use Rattle.cs_plan.specs.declared.limits.TheConstants.{MAX_MINUTES};
-ghost use Rattle.cs_plan.specs.Plan.{places_of};
 ghost use Rattle.cs_plan.specs.Answers.{Answers};
 ghost use Rattle.cs_plan.specs.Reboot.{is_reboot};
 ghost use Rattle.cs_plan.specs.Plain.{plain_job, plain_plan, plain_of, is_possible_max};

@@ -19,7 +19,7 @@ use std::marker::Model;
 /// Jobs are numbered from 0: first the commands of the crontab, then the jobs of the anacrontab,
 /// each in order of line. No command is an `@reboot`. Lines that declarations leave out are not in
 /// the crontab.
-#[derive(Debug, Drop)]
+#[derive(Drop)]
 pub struct Plan {
     crontab: Crontab,
     anacrontab: Anacrontab,

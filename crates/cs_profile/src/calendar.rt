@@ -15,20 +15,9 @@ const FIRST_DAY: u64 = NEW_YEAR - DAYS_BEFORE as u64;
 const DAYS_OF_28_YEARS: u64 = 10_231;
 
 /// The profiles of civil days, from shortly before 2024-01-01 on for 28 years.
-#[derive(Debug, Drop)]
+#[derive(Drop)]
 pub struct Calendar {
     profiles: Vec<u16>,
-}
-
-/// The profile of the civil day with this number.
-fn profile_on(facts: &Facts, number: u64) -> u16 {
-    match Day::new(number) {
-        Some(day) => match facts.profiles().get(usize::from(kind_number(kind_of(day)))) {
-            Some(profile) => *profile,
-            None => 0,
-        },
-        None => 0,
-    }
 }
 
 impl Calendar {
@@ -36,7 +25,11 @@ impl Calendar {
     pub fn of(alloc: Global, facts: &Facts) -> Result<Calendar, AllocError> {
         let mut profiles = Vec::new(alloc);
         for number in FIRST_DAY..(NEW_YEAR + DAYS_OF_28_YEARS) {
-            profiles.push(profile_on(facts, number))?;
+            let profile = match Day::new(number) {
+                Some(day) => facts.profiles().get(usize::from(kind_number(kind_of(day)))),
+                None => None,
+            };
+            profiles.push(profile.copied().unwrap_or(0))?;
         }
         Ok(Calendar { profiles })
     }

@@ -3,7 +3,7 @@ use cs_wait::Piece;
 use std::alloc::{AllocError, Global};
 
 /// The classes of a certificate to be.
-#[derive(Debug, Drop)]
+#[derive(Drop)]
 pub struct Classing {
     /// The class of each kind of day, by the kind's number.
     pub class_of: Vec<u16>,
@@ -11,7 +11,7 @@ pub struct Classing {
 }
 
 /// What a certificate is to say of the days of one class.
-#[derive(Debug, Drop)]
+#[derive(Drop)]
 pub struct DayClass {
     /// The profile of its days: which jobs are due on them.
     pub profile: u16,
@@ -20,30 +20,25 @@ pub struct DayClass {
 }
 
 /// A bound on the minutes of runs that wait for the lock of a group or hold it.
-#[derive(Debug, Drop)]
+#[derive(Drop)]
 pub struct GroupBound {
     pub group: u8,
     pub pieces: Vec<Piece>,
 }
 
-/// A class for each of so many profiles, in which nothing waits.
-fn calm_classes(alloc: Global, profiles: usize) -> Result<Vec<DayClass>, AllocError> {
-    let mut classes = Vec::new(alloc);
-    for profile in 0..profiles {
-        classes.push(DayClass {
-            profile: u16::try_from(profile).unwrap_or(u16::MAX),
-            bounds: Vec::new(alloc),
-        })?;
-    }
-    Ok(classes)
-}
-
 impl Classing {
     /// A class for each profile, in which nothing waits. The only error is want of memory.
     pub fn of_profiles(alloc: Global, facts: &Facts) -> Result<Classing, AllocError> {
+        let mut classes = Vec::new(alloc);
+        for profile in 0..facts.first_kinds().len() {
+            classes.push(DayClass {
+                profile: u16::try_from(profile).unwrap_or(u16::MAX),
+                bounds: Vec::new(alloc),
+            })?;
+        }
         Ok(Classing {
             class_of: Vec::from_slice(alloc, facts.profiles())?,
-            classes: calm_classes(alloc, facts.first_kinds().len())?,
+            classes,
         })
     }
 }

@@ -5,7 +5,7 @@ use cs_plan::Plan;
 use std::alloc::{AllocError, Global};
 
 /// What the maker reads off a plan once.
-#[derive(Debug, Drop)]
+#[derive(Drop)]
 pub struct Facts {
     tasks: Vec<Task>,
     kinds: Vec<DayKind>,
@@ -30,24 +30,19 @@ fn first_kinds(
     Ok(first)
 }
 
-/// The jobs of the crontab that are due on days of this kind.
-fn due_on(alloc: Global, plan: &Plan, kind: DayKind) -> Result<Vec<u16>, AllocError> {
-    let mut due = Vec::new(alloc);
-    for number in 0..plan.crons() {
-        if let Some(schedule) = schedule_of(plan, number) {
-            if schedule.is_day_due(kind) {
-                due.push(u16::try_from(number).unwrap_or(u16::MAX))?;
-            }
-        }
-    }
-    Ok(due)
-}
-
-/// The same for each of these kinds.
+/// The jobs of the crontab that are due on days of each of these kinds.
 fn due_lists(alloc: Global, plan: &Plan, kinds: &[DayKind]) -> Result<Vec<Vec<u16>>, AllocError> {
     let mut lists = Vec::new(alloc);
     for kind in kinds {
-        lists.push(due_on(alloc, plan, *kind)?)?;
+        let mut due = Vec::new(alloc);
+        for number in 0..plan.crons() {
+            if let Some(schedule) = schedule_of(plan, number) {
+                if schedule.is_day_due(*kind) {
+                    due.push(u16::try_from(number).unwrap_or(u16::MAX))?;
+                }
+            }
+        }
+        lists.push(due)?;
     }
     Ok(lists)
 }

@@ -14,66 +14,48 @@ pub(crate) fn kinds(alloc: Global) -> Result<Vec<DayKind>, AllocError> {
     Ok(kinds)
 }
 
-/// The numbers of the kinds that can come next, the last of them twice where there is one alone.
-fn next_numbers(kind: DayKind) -> [u16; 2] {
-    let mut numbers = [0, 0];
-    for next in next_kinds(kind).as_slice() {
-        numbers = [numbers[1], kind_number(*next)];
-    }
-    if next_kinds(kind).len() < 2 {
-        numbers[0] = numbers[1];
-    }
-    numbers
-}
-
-/// The same for each kind, by number.
+/// The numbers of the kinds that can come next after each, by number; the last of them twice where there is one alone.
 pub(crate) fn successors(alloc: Global, kinds: &[DayKind]) -> Result<Vec<[u16; 2]>, AllocError> {
     let mut successors = Vec::new(alloc);
     for kind in kinds {
-        successors.push(next_numbers(*kind))?;
+        let next = next_kinds(*kind);
+        let mut numbers = [0, 0];
+        for kind in next.as_slice() {
+            numbers = [numbers[1], kind_number(*kind)];
+        }
+        if next.len() < 2 {
+            numbers[0] = numbers[1];
+        }
+        successors.push(numbers)?;
     }
     Ok(successors)
 }
 
-/// Sorts of days that are told apart so far: each sort of before that a kind had, and whether a job is due on its days, is
-/// one, numbered as they come first.
-#[derive(Drop)]
-struct Sorts {
-    numbers: Vec<Option<u16>>,
-    count: u16,
-}
-
-impl Sorts {
-    /// The number of this sort.
-    fn number_of(&mut self, before: u16, is_due: bool) -> u16 {
-        let place = 2 * usize::from(before) + usize::from(is_due);
-        match self.numbers.get_mut(place) {
-            Some(Some(number)) => *number,
-            Some(unknown) => {
-                let number = self.count;
-                *unknown = Some(number);
-                self.count = number.saturating_add(1);
-                number
-            }
-            None => 0,
-        }
-    }
-}
-
-/// The sorts of days, told apart by whether this job is due too.
+/// The sorts of days, told apart by whether this job is due too: each sort of before that a kind had, and whether the job is due on
+/// its days, is one, numbered as they come first.
 fn told_apart(
     alloc: Global,
     kinds: &[DayKind],
     sorts: &[u16],
     schedule: &Schedule,
 ) -> Result<Vec<u16>, AllocError> {
-    let mut seen = Sorts {
-        numbers: Vec::from_elem(alloc, None, 2 * kinds.len())?,
-        count: 0,
-    };
+    let mut seen: Vec<Option<u16>> = Vec::from_elem(alloc, None, 2 * kinds.len())?;
+    let mut count: u16 = 0;
     let mut finer = Vec::new(alloc);
     for (kind, sort) in kinds.iter().zip(sorts) {
-        finer.push(seen.number_of(*sort, schedule.is_day_due(*kind)))?;
+        let is_due = usize::from(schedule.is_day_due(*kind));
+        let place = usize::from(*sort).saturating_mul(2).saturating_add(is_due);
+        let number = match seen.get(place) {
+            Some(Some(number)) => *number,
+            _ => count,
+        };
+        if number == count {
+            if let Some(new) = seen.get_mut(place) {
+                *new = Some(number);
+            }
+            count = count.saturating_add(1);
+        }
+        finer.push(number)?;
     }
     Ok(finer)
 }

@@ -1,11 +1,11 @@
 use cs_crontab::When;
 use cs_history::Mode;
-use cs_plan::{Job, Plan};
+use cs_plan::Plan;
 use cs_schedule::Schedule;
 use std::alloc::{AllocError, Global};
 
 /// What a job of a plan does, as the maker sees it.
-#[derive(Debug, Drop)]
+#[derive(Drop)]
 pub struct Task {
     /// Whether it is of the crontab; else it is of the anacrontab, and catches up.
     pub is_cron: bool,
@@ -49,35 +49,26 @@ fn minutes_of(alloc: Global, plan: &Plan, number: usize) -> Result<Vec<u16>, All
     Ok(minutes)
 }
 
-/// For how many minutes a job of the anacrontab is put off.
-fn delay_of(plan: &Plan, number: usize) -> u32 {
-    let place = number.saturating_sub(plan.crons());
-    match plan.anacrontab().lines().get(place) {
-        Some(line) => line.delay(),
-        None => 0,
-    }
-}
-
-/// What the job with this number does.
-fn task_of(alloc: Global, plan: &Plan, number: usize, job: Job) -> Result<Task, AllocError> {
-    let is_cron = number < plan.crons();
-    Ok(Task {
-        is_cron,
-        mode: job.mode(),
-        group: job.group(),
-        is_exclusive: plan.is_exclusive(job.group()),
-        weight: job.weight(),
-        max: job.max(),
-        delay: if is_cron { 0 } else { delay_of(plan, number) },
-        minutes: minutes_of(alloc, plan, number)?,
-    })
-}
-
 /// What the jobs of a plan do, by number.
 pub(crate) fn tasks_of(alloc: Global, plan: &Plan) -> Result<Vec<Task>, AllocError> {
     let mut tasks = Vec::new(alloc);
     for (number, job) in plan.jobs().iter().enumerate() {
-        tasks.push(task_of(alloc, plan, number, *job)?)?;
+        let is_cron = number < plan.crons();
+        let place = number.saturating_sub(plan.crons());
+        let delay = match plan.anacrontab().lines().get(place) {
+            Some(line) if !is_cron => line.delay(),
+            _ => 0,
+        };
+        tasks.push(Task {
+            is_cron,
+            mode: job.mode(),
+            group: job.group(),
+            is_exclusive: plan.is_exclusive(job.group()),
+            weight: job.weight(),
+            max: job.max(),
+            delay,
+            minutes: minutes_of(alloc, plan, number)?,
+        })?;
     }
     Ok(tasks)
 }

@@ -1,27 +1,19 @@
 -- Commands that seem to stand behind a user, as in tables with a user column (this profile).
-use Rattle.std.specs.Prelude.{ℕ, ◌==◌, nat_le, not, Bool, false, ◌&&◌, ◌||◌, List, [], ◌∷◌, ◌++◌, codes}
+use Rattle.std.specs.Prelude.{ℕ, ◌==◌, nat_le, not, Bool, false, ◌&&◌, ◌||◌, List, [], ◌∷◌, codes}
+use Rattle.std.specs.Char.{is_ascii_lowercase}
 use Rattle.std.specs.List.{list_all, list_any, slice_split}
 use Rattle.std.specs.Str.{bytes_eq}
 use Rattle.cs_crontab.specs.Crontab.{CommandLine}
+use Rattle.cs_report.specs.declared.user.TheConstants.{SYSTEM_USERS, USUAL_WORDS}
 use Rattle.cs_table.specs.Text.{after, front, is_blank, is_digit, is_solid}
 
--- users that systems and their packages have, aside from those whose names are often commands, as
--- `backup`, `lp`, `mail`, `man` and `sync`
+-- users that systems and their packages have, and words with which commands usually begin: the lists
+-- are the program's own
 unfoldable pub system_users : List ℕ
-system_users =
-    codes "Debian-exim amavis apache awstats bin bind cacti clamav daemon debian-spamd dovecot "
-    ++ codes "exim games git gitlab gnats icinga irc list logcheck logwatch mailman munin mysql "
-    ++ codes "nagios news nginx nobody ntp ntpsec ossec postfix postgres proxy puppet redis "
-    ++ codes "roundcube smmsp smokeping sys uucp vmail www www-data zabbix"
+system_users = SYSTEM_USERS.now
 
--- words with which commands usually begin
 unfoldable pub usual_words : List ℕ
-usual_words =
-    codes "bash cat cd chronic clamscan command cp cronic curl dash docker du echo env exec "
-    ++ codes "export find flock fstrim git gzip if ionice ln logger logrotate ls mail make mkdir "
-    ++ codes "mount mv nice node nohup npm perl php podman printf python python3 rm rsync ruby "
-    ++ codes "run-one run-parts runuser scp setsid sh sleep source su sudo systemd-run tar test "
-    ++ codes "time timeout touch umask umount unison until wget while zip zsh"
+usual_words = USUAL_WORDS.now
 
 -- The word is one of those in the list, which have a space between them.
 abbrev pub is_one_of : List ℕ → List ℕ → Bool
@@ -32,16 +24,13 @@ abbrev pub is_no_user : List ℕ → Bool
 is_no_user word = is_one_of usual_words word
     && (not (is_one_of system_users word) && not (bytes_eq word (codes "mail")))
 
-abbrev pub is_letter : ℕ → Bool
-is_letter b = nat_le 97 b && nat_le b 122
-
 abbrev pub is_name_byte : ℕ → Bool
-is_name_byte b = is_letter b || is_digit b || b == 45 || b == 46 || b == 95
+is_name_byte b = is_ascii_lowercase b || is_digit b || b == 45 || b == 46 || b == 95
 
 -- a name: a lower-case letter, and then such letters, digits, `-`, `.` and `_`
 abbrev pub is_name : List ℕ → Bool
 is_name [] = false
-is_name (b ∷ bs) = is_letter b && list_all is_name_byte bs
+is_name (b ∷ bs) = is_ascii_lowercase b && list_all is_name_byte bs
 
 -- `_` and a name: users of Debian's packages are called so (Debian Policy 9.2.1)
 abbrev pub is_package_user : List ℕ → Bool

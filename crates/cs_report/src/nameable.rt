@@ -1,10 +1,9 @@
 //! Scripts that have a text.
-ghost use Rattle.std.specs.Prelude.{◌≡◌, ◌==◌};
-ghost use Rattle.std.specs.List.{list_all, list_any};
-ghost use Rattle.cs_civil.specs.Calendar.{last_day};
+ghost use Rattle.std.specs.Prelude.{◌≡◌};
+ghost use Rattle.std.specs.List.{list_all};
 ghost use Rattle.cs_history.specs.Step.{is_civil};
 ghost use Rattle.cs_report.specs.ScriptText.{are_nameable_stamps, is_anacron_name, is_cron_name};
-ghost use Rattle.cs_report.specs.ScriptText.{is_job_name, is_name, is_nameable, is_nameable_event};
+ghost use Rattle.cs_report.specs.ScriptText.{is_name, is_nameable, is_nameable_event};
 ghost use Rattle.cs_report.specs.ScriptText.{is_nameable_stamp};
 
 use crate::entry::FIRST_START;
@@ -14,18 +13,12 @@ use cs_civil::{Day, Minute};
 use cs_history::{Event, Script};
 use cs_plan::{Plan, identifier_of};
 
-fn has_newline(text: &[u8]) -> bool
-    ensures { result ≡ list_any (λ b. b == 10) text.now }
-{
-    text.iter().any(|byte| *byte == b'\n')
-}
-
 /// Whether the text is one word of a line.
 #[tactic(auto, unfolding(crate::specs::ScriptText::is_name))]
 fn is_name(text: &[u8]) -> bool
     ensures { result ≡ is_name text.now }
 {
-    is_word(text) && !has_newline(text)
+    is_word(text) && !text.contains(&b'\n')
 }
 
 /// Whether the job is one of the crontab.
@@ -48,16 +41,6 @@ fn is_anacron(plan: &Plan, job: u16) -> bool
     is_name(identifier_of(plan, number))
 }
 
-#[tactic(auto, unfolding(crate::specs::ScriptText::is_job_name))]
-fn is_job(plan: &Plan, job: u16) -> bool
-    ensures { result ≡ is_job_name plan.now job }
-{
-    if is_cron(plan, job) {
-        return true;
-    }
-    is_anacron(plan, job)
-}
-
 /// Whether the minute is from 1970-01-02 00:00 to 9999-12-31 23:59.
 fn is_civil(minute: u64) -> bool
     ensures { result ≡ is_civil minute }
@@ -66,6 +49,7 @@ fn is_civil(minute: u64) -> bool
 }
 
 /// Whether the event has a job of its kind and minutes in range.
+#[tactic(auto, unfolding(crate::specs::ScriptText::is_job_name))]
 fn is_nameable_event(plan: &Plan, event: Event) -> bool
     ensures { result ≡ is_nameable_event plan.now event }
 {
@@ -74,7 +58,9 @@ fn is_nameable_event(plan: &Plan, event: Event) -> bool
         Event::Begin(job) => is_cron(plan, job),
         Event::Got(job, at) => is_cron(plan, job) && is_civil(at),
         Event::Catch(job) => is_anacron(plan, job),
-        Event::End(run) => is_job(plan, run.job) && is_civil(run.at),
+        Event::End(run) => {
+            (is_cron(plan, run.job) || is_anacron(plan, run.job)) && is_civil(run.at)
+        }
         Event::Down => true,
     }
 }

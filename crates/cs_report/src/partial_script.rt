@@ -1,5 +1,5 @@
 //! The lines of a script read so far.
-ghost use Rattle.std.specs.Prelude.{◌≡◌, ◌≤◌, IfOk, length, replicate, set, None, Some};
+ghost use Rattle.std.specs.Prelude.{◌≡◌, ◌≤◌, IfOk, replicate, set, None, Some};
 ghost use Rattle.cs_report.specs.Entries.{Gives, IsLateEnough};
 ghost use Rattle.cs_report.specs.Script.{Denotes, is_misplaced, is_too_late, nothing, numbered};
 ghost use Rattle.cs_report.specs.Script.{said_behind, taken, with_entry};

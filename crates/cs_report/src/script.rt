@@ -20,7 +20,7 @@ use std::marker::Model;
 pub const MAX_SCRIPT: usize = 16_777_216;
 
 /// A script, and the line number, from 1, of each event.
-#[derive(Debug, Drop)]
+#[derive(Drop)]
 pub struct NumberedScript {
     opening: Start,
     list: Sequence<(u32, Event)>,

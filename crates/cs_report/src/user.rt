@@ -2,9 +2,8 @@
 ghost use Rattle.std.specs.Prelude.{◌≡◌, ◌==◌, ◌<◌, length, position, IfSome};
 ghost use Rattle.std.specs.List.{find, list_all, list_any};
 ghost use Rattle.std.specs.Option.{option_map};
-ghost use Rattle.std.specs.Str.{bytes_eq};
 ghost use Rattle.cs_report.specs.User.{begins_command, is_alike, is_assignment, is_behind_user};
-ghost use Rattle.cs_report.specs.User.{is_letter, is_name, is_name_byte, is_no_user, is_one_of};
+ghost use Rattle.cs_report.specs.User.{is_name, is_name_byte, is_no_user, is_one_of};
 ghost use Rattle.cs_report.specs.User.{is_package_user, is_sign};
 ghost use Rattle.cs_report.specs.User.{second_word, system_users, usual_words};
 
@@ -70,16 +69,12 @@ pub fn is_no_user(word: &[u8]) -> bool
     is_usual_word(word) && !is_system_user(word) && word != b"mail".as_slice()
 }
 
-fn is_letter(byte: u8) -> bool
-    ensures { result ≡ is_letter byte }
-{
-    b'a' <= byte && byte <= b'z'
-}
-
 fn is_name_byte(byte: u8) -> bool
     ensures { result ≡ is_name_byte byte }
 {
-    is_letter(byte) || (b'0' <= byte && byte <= b'9') || matches!(byte, b'-' | b'.' | b'_')
+    byte.is_ascii_lowercase()
+        || (b'0' <= byte && byte <= b'9')
+        || matches!(byte, b'-' | b'.' | b'_')
 }
 
 fn are_name_bytes(text: &[u8]) -> bool
@@ -92,7 +87,7 @@ fn is_name(word: &[u8]) -> bool
     ensures { result ≡ is_name word.now }
 {
     match word {
-        [first, others @ ..] => is_letter(*first) && are_name_bytes(others),
+        [first, others @ ..] => first.is_ascii_lowercase() && are_name_bytes(others),
         [] => false,
     }
 }
@@ -116,17 +111,11 @@ fn is_sign(word: &[u8]) -> bool
     }
 }
 
-fn has_equals(text: &[u8]) -> bool
-    ensures { result ≡ list_any (λ b. b == 61) text.now }
-{
-    text.iter().any(|byte| *byte == b'=')
-}
-
 fn is_assignment(word: &[u8]) -> bool
     ensures { result ≡ is_assignment word.now }
 {
     match word {
-        [first, others @ ..] => b'A' <= *first && *first <= b'Z' && has_equals(others),
+        [first, others @ ..] => b'A' <= *first && *first <= b'Z' && others.contains(&b'='),
         [] => false,
     }
 }

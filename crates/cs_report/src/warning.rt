@@ -1,18 +1,18 @@
-ghost use Rattle.std.specs.Prelude.{◌≡◌, ◌==◌, ◌&&◌, ◌++◌, IfOk, OnOk, length, nat_le, not, sum_by};
+ghost use Rattle.std.specs.Prelude.{◌≡◌, ◌++◌, IfOk, OnOk, nat_le, sum_by};
 ghost use Rattle.std.specs.Fmt.{decimal};
-ghost use Rattle.std.specs.List.{count_by, find, flat_map, list_all, list_any};
-ghost use Rattle.cs_table.specs.Text.{is_digit};
+ghost use Rattle.std.specs.List.{count_by, find, flat_map, list_any};
 ghost use Rattle.std.specs.Option.{option_map};
 ghost use Rattle.cs_history.specs.Plan.{is_group};
 ghost use Rattle.cs_report.specs.User.{is_behind_user};
-ghost use Rattle.cs_report.specs.Warning.{begins_with_number, number_warning, number_warning_of};
-ghost use Rattle.cs_report.specs.Warning.{default_note, doubled_warning, is_unheeded, left_out_note};
-ghost use Rattle.cs_report.specs.Warning.{decides_nothing, guess_note, is_at_stake, is_contended};
-ghost use Rattle.cs_report.specs.Warning.{no_job_note, nothing_note, nothing_text, plan_notes};
-ghost use Rattle.cs_report.specs.Warning.{untimed_warning, user_warning, user_warning_of};
-ghost use Rattle.cs_report.specs.Warning.{warning, warnings, warnings_of};
+ghost use Rattle.cs_report.specs.Warning.{begins_with_number, decides_nothing, default_note};
+ghost use Rattle.cs_report.specs.Warning.{doubled_warning, guess_note, is_at_stake, is_contended};
+ghost use Rattle.cs_report.specs.Warning.{is_unheeded, left_out_note, no_job_note, nothing_note};
+ghost use Rattle.cs_report.specs.Warning.{nothing_text, number_warning, number_warning_of};
+ghost use Rattle.cs_report.specs.Warning.{plan_notes, untimed_warning, user_warning_of, warning};
+ghost use Rattle.cs_report.specs.Warning.{warnings, warnings_of};
 
 use crate::user::first_behind_user;
+use crate::words::is_number;
 use cs_anacrontab::Anacrontab;
 use cs_civil::{Bytes, push_number};
 use cs_crontab::{Crontab, Line};
@@ -100,10 +100,14 @@ fn push_named(
     text.extend_from_slice(end)
 }
 
-/// Writes the warning of a command that seems to stand behind a user behind the text.
-fn push_user_warning(alloc: Global, text: &mut Vec<u8>, line: &Line) -> Result<(), AllocError>
-    ensures { OnOk result (text.new.items ≡ text.old.items ++ user_warning line.now) }
+/// Writes the warning of the first command that seems to stand behind a user behind the text.
+fn push_user_warning(alloc: Global, text: &mut Vec<u8>, lines: &[Line]) -> Result<(), AllocError>
+    ensures { OnOk result (text.new.items
+        ≡ text.old.items ++ user_warning_of (find (is_behind_user lines.now) lines.now)) }
 {
+    let Some(line) = first_behind_user(lines) else {
+        return Ok(());
+    };
     let (name, _) = word(line.command());
     push_named(
         alloc,
@@ -116,39 +120,7 @@ fn push_user_warning(alloc: Global, text: &mut Vec<u8>, line: &Line) -> Result<(
     )
 }
 
-/// Writes the warning of the first such command behind the text.
-fn push_first_user_warning(
-    alloc: Global,
-    text: &mut Vec<u8>,
-    lines: &[Line],
-) -> Result<(), AllocError>
-    ensures { OnOk result (text.new.items
-        ≡ text.old.items ++ user_warning_of (find (is_behind_user lines.now) lines.now)) }
-{
-    match first_behind_user(lines) {
-        Some(line) => push_user_warning(alloc, text, line),
-        None => Ok(()),
-    }
-}
-
-fn is_digit(byte: u8) -> bool
-    ensures { result ≡ is_digit byte }
-{
-    byte.is_ascii_digit()
-}
-
-fn are_digits(text: &[u8]) -> bool
-    ensures { result ≡ list_all is_digit text.now }
-{
-    text.iter().all(|byte| is_digit(*byte))
-}
-
-fn is_number(word: &[u8]) -> bool
-    ensures { result ≡ not (length word.now == 0) && list_all is_digit word.now }
-{
-    !word.is_empty() && are_digits(word)
-}
-
+#[tactic(auto, unfolding(crate::specs::Reading::is_number))]
 fn begins_with_number(line: &Line) -> bool
     ensures { result ≡ begins_with_number line.now }
 {
@@ -214,7 +186,7 @@ pub fn warnings(
 {
     let mut text = Vec::new(alloc);
     push_warnings(alloc, &mut text, b"crontab", crontab.settings())?;
-    push_first_user_warning(alloc, &mut text, crontab.lines())?;
+    push_user_warning(alloc, &mut text, crontab.lines())?;
     push_first_number_warning(alloc, &mut text, crontab.lines())?;
     push_warnings(alloc, &mut text, b"anacrontab", anacrontab.settings())?;
     Ok(Bytes::from_vec(text))
@@ -289,20 +261,11 @@ fn push_guess(alloc: Global, text: &mut Vec<u8>, jobs: usize) -> Result<(), Allo
     }
 }
 
-fn is_in(job: &Job, group: u8) -> bool
-    ensures { result ≡ is_group group job.now.group }
-{
-    match job.group() {
-        Some(number) => group == number,
-        None => false,
-    }
-}
-
 /// How many jobs belong to the group.
 fn count_in(jobs: &[Job], group: u8) -> usize
     ensures { result ≡ count_by (λ job. is_group group job.group) jobs.now }
 {
-    jobs.iter().filter(|job| is_in(job, group)).count()
+    jobs.iter().filter(|job| job.group() == Some(group)).count()
 }
 
 /// Whether the group is exclusive, and two jobs belong to it.

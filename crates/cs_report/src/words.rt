@@ -1,5 +1,5 @@
 //! The words of a script's line.
-ghost use Rattle.std.specs.Prelude.{◌≡◌, ◌≤◌, ◌==◌, length, min, option_map, position};
+ghost use Rattle.std.specs.Prelude.{◌≡◌, ◌≤◌, ◌==◌, min, option_map, position};
 ghost use Rattle.std.specs.List.{list_all};
 ghost use Rattle.cs_table.specs.Text.{decimal, is_digit};
 ghost use Rattle.cs_report.specs.Grammar.{is_word_byte};
@@ -32,22 +32,13 @@ fn has_no_space(text: &[u8]) -> bool
 pub(crate) fn is_word(text: &[u8]) -> bool
     ensures { result ≡ is_word text.now }
 {
-    if text.is_empty() {
-        return false;
-    }
-    has_no_space(text)
-}
-
-fn is_digit(byte: u8) -> bool
-    ensures { result ≡ is_digit byte }
-{
-    b'0' <= byte && byte <= b'9'
+    !text.is_empty() && has_no_space(text)
 }
 
 fn has_only_digits(text: &[u8]) -> bool
     ensures { result ≡ list_all is_digit text.now }
 {
-    text.iter().all(|byte| is_digit(*byte))
+    text.iter().all(|byte| byte.is_ascii_digit())
 }
 
 /// Whether the text is one digit or more.
@@ -55,10 +46,7 @@ fn has_only_digits(text: &[u8]) -> bool
 pub(crate) fn is_number(text: &[u8]) -> bool
     ensures { result ≡ is_number text.now }
 {
-    if text.is_empty() {
-        return false;
-    }
-    has_only_digits(text)
+    !text.is_empty() && has_only_digits(text)
 }
 
 /// Whether the text is two words, as a date and a time of the day are.

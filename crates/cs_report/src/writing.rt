@@ -5,10 +5,10 @@ ghost use Rattle.cs_plan.specs.JobNames.{command_name, identifier_of};
 ghost use Rattle.cs_history.specs.Step.{is_civil};
 ghost use Rattle.cs_report.specs.Faults.{MeansPlain};
 ghost use Rattle.cs_report.specs.ReadBack.{tells_command, tells_event, tells_job};
-ghost use Rattle.cs_report.specs.ScriptText.{are_nameable_stamps, at_minute, event_line};
+ghost use Rattle.cs_report.specs.ScriptText.{at_minute, event_line};
 ghost use Rattle.cs_report.specs.ScriptText.{event_text, is_cron_name};
 ghost use Rattle.cs_report.specs.ScriptText.{is_job_name, is_nameable, is_nameable_event};
-ghost use Rattle.cs_report.specs.ScriptText.{is_nameable_stamp, job_name, on_day, script_text};
+ghost use Rattle.cs_report.specs.ScriptText.{job_name, on_day, script_text};
 ghost use Rattle.cs_report.specs.ScriptText.{stamp_line, stamp_lines, start_line};
 
 use crate::nameable::is_cron;

@@ -11,7 +11,7 @@ use std::marker::Model;
 /// Runs by name, each with its minute, in the order in which they came. A run that leaves is
 /// marked, and marked runs are swept out once they are more than the others: so each call takes the
 /// same time on average, however many runs there are.
-#[derive(Debug, Drop)]
+#[derive(Drop)]
 pub struct Roster {
     entries: IndexMap<Run, Option<u64>>,
     gone: usize,

@@ -14,7 +14,7 @@ use Rattle.cs_claims.specs.declared.fault.CertFault.TheVariants.{TooLong}
 use Rattle.cs_claims.specs.declared.limits.TheConstants.{MAX_CERTIFICATE}
 use Rattle.cs_check.specs.Checked.{certificate_in, plan_in}
 use Rattle.cs_check.specs.declared.checked.Checked.{Checked}
-use Rattle.cs_args.specs.CommandLine.{AskedCheck}
+use Rattle.cs_args.specs.Asked.{AskedCheck}
 use Rattle.cs_ruling.specs.Check.{AreDigestsOf, AreRead, IsDigestAt, IsDigestOf, ReadsCertificate, said}
 use Rattle.cs_ruling.specs.declared.check.Digests.{Digests}
 use Rattle.cs_files.specs.Reads.{IsRead, MeansIt, PlacesIn, ReadsFitting, without_rest}

@@ -6,8 +6,7 @@ use Rattle.cs_report.specs.Warning.{plan_notes}
 use Rattle.cs_check.specs.declared.checked.Checked.{Checked}
 use Rattle.cs_plan.specs.Plan.{as_plan}
 use Rattle.cs_check.specs.Checked.{IsHeadline, certificate_in, plan_in}
-use Rattle.cs_args.specs.Asked.{asked_run}
-use Rattle.cs_args.specs.CommandLine.{AskedRun}
+use Rattle.cs_args.specs.Asked.{asked_run, AskedRun}
 use Rattle.cs_io.specs.Files.{Failed}
 use Rattle.cs_ruling.specs.Check.{AnswersCheck, AreDigestsOf, IsProofOf, safe_text}
 use Rattle.cs_ruling.specs.Safe.{IsAcceptance}

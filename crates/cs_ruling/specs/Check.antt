@@ -20,7 +20,7 @@ use Rattle.cs_check.specs.Checked.{certificate_in, plan_in}
 use Rattle.cs_check.specs.declared.checked.Checked.{Checked}
 use Rattle.cs_report.specs.Refused.{fault_text}
 use Rattle.cs_report.specs.Warning.{plan_notes}
-use Rattle.cs_args.specs.CommandLine.{AskedCheck}
+use Rattle.cs_args.specs.Asked.{AskedCheck}
 use Rattle.cs_io.specs.Files.{Failed}
 use Rattle.cs_files.specs.Response.{Ending, done}
 use Rattle.cs_files.specs.Reads.{AndThen, Answered, GivesSome, PlacesIn, ReadsAs, ReadsFitting, ReadsTables, WithPlaces}

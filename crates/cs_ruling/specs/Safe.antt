@@ -4,7 +4,7 @@ use Rattle.cs_plan.specs.Plan.{as_plan}
 use Rattle.cs_check.specs.Case.{reach_for}
 use Rattle.cs_check.specs.Checked.{IsCalmThroughout, IsHeadline, certificate_in, plan_in}
 use Rattle.cs_check.specs.declared.checked.Checked.{Checked}
-use Rattle.cs_args.specs.CommandLine.{AskedCheck}
+use Rattle.cs_args.specs.Asked.{AskedCheck}
 use Rattle.cs_io.specs.Files.{Failed}
 use Rattle.cs_ruling.specs.Check.{AnswersCheck, IsProofOf}
 use Rattle.cs_files.specs.RanOut.{AreWarnings}

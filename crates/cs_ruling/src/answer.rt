@@ -1,5 +1,5 @@
 //! What is answered to the words of a call.
-ghost use Rattle.std.specs.Prelude.{◌≡◌, ◌++◌, [], IfOk, codes};
+ghost use Rattle.std.specs.Prelude.{◌≡◌, ◌++◌, [], IfOk};
 ghost use Rattle.cs_files.specs.Response.{complaint};
 
 use crate::check::Digests;

@@ -5,7 +5,7 @@ use crate::numbers::Numbers;
 use std::marker::Model;
 
 /// A time and date field: its numbers, and whether it begins with `*` and so restricts nothing.
-#[derive(Debug, Drop)]
+#[derive(Drop)]
 pub struct Field {
     starred: bool,
     chosen: Numbers,

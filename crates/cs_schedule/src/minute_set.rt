@@ -12,7 +12,7 @@ use std::marker::Model;
 pub const MINUTES_OF_BLOCK: u16 = 32;
 
 /// Minutes of a day, from 0 for 00:00 to 1,439 for 23:59, a bit each.
-#[derive(Debug, Drop)]
+#[derive(Drop)]
 pub struct MinuteSet {
     words: [u64; 23],
 }
@@ -186,7 +186,7 @@ impl MinuteSet {
 }
 
 /// The minutes of a set that are left, rising.
-#[derive(Debug, Drop)]
+#[derive(Drop)]
 pub struct Minutes {
     words: [u64; 23],
     next: u16,

@@ -4,7 +4,7 @@ ghost use Rattle.cs_schedule.specs.Numbers.{has, has_bit, is_every, numbers_wher
 use std::marker::Model;
 
 /// Numbers below 64, a bit each.
-#[derive(Debug, Drop)]
+#[derive(Drop)]
 pub struct Numbers {
     word: u64,
 }

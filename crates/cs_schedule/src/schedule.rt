@@ -11,7 +11,7 @@ use cs_civil::{DayKind, Minute, kind_of};
 use std::marker::Model;
 
 /// When a command is due: the five time and date fields of crontab(5), with numbers in range.
-#[derive(Debug, Drop)]
+#[derive(Drop)]
 pub struct Schedule {
     minute: Field,
     hour: Field,

@@ -1,7 +1,6 @@
 -- Orders that come one behind another.
 use Rattle.std.proofs.Common.{◌≡◌, ◌∙◌, ℕ, List, [], ap, inl, inr, refl, subst}
-use Rattle.cs_args.specs.Asked.{asked_run}
-use Rattle.cs_args.specs.CommandLine.{AskedRun}
+use Rattle.cs_args.specs.Asked.{asked_run, AskedRun}
 use Rattle.cs_ruling.specs.declared.answer.Order.{Order}
 use Rattle.cs_daemon.specs.declared.end.Cause.{Cause}
 use Rattle.cs_serve.specs.Anew.{IsOrderOf}

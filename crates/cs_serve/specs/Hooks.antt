@@ -1,6 +1,6 @@
 -- The commands of the operator's that are started at what happens to a run.
 use Rattle.std.specs.Prelude.{ℕ, Bool, if◌then◌else◌, List, [], ◌∷◌, ◌++◌, codes, Option}
-use Rattle.cs_args.specs.CommandLine.{AskedRun}
+use Rattle.cs_args.specs.Asked.{AskedRun}
 use Rattle.cs_machine.specs.declared.hook_call.HookCall.{HookCall}
 use Rattle.cs_machine.specs.declared.hook_call.HookCall.TheVariants.{Failure, Overrun}
 

@@ -16,8 +16,7 @@ use Rattle.cs_keep.specs.Closed.{checked_in, keeping_in}
 use Rattle.cs_keep.specs.Keeping.{IsKept}
 use Rattle.cs_files.specs.Response.{Ending, complaint}
 use Rattle.cs_ruling.specs.declared.answer.Order.{Order}
-use Rattle.cs_args.specs.Asked.{asked_run}
-use Rattle.cs_args.specs.CommandLine.{AskedRun}
+use Rattle.cs_args.specs.Asked.{asked_run, AskedRun}
 use Rattle.cs_serve.specs.Anew.{IsOrderOf}
 use Rattle.cs_files.specs.Ending.{Ends, Sink, Tries}
 use Rattle.cs_serve.specs.declared.obstacle.Obstacle.{Obstacle}

@@ -108,24 +108,18 @@ fn reads_standard(words: &RunWords<'_>) -> bool {
         || files.anacrontab == Some("-")
 }
 
-/// Whether what is at a path is no file. A pipe would hold the daemon up.
-fn is_no_file<R: Files>(rt: &R, path: &str) -> bool {
-    match fs::metadata(rt, path) {
-        Ok(found) => !found.is_file(),
-        Err(_) => false,
-    }
-}
-
-/// Whether a daemon's files aren't all files, as far as they are there.
+/// Whether a daemon's files aren't all files, as far as they are there. A pipe would hold it up.
 fn has_no_files<R: Files>(rt: &R, words: &RunWords<'_>) -> bool {
     let files = &words.check;
-    is_no_file(rt, files.table)
-        || is_no_file(rt, files.declarations)
-        || is_no_file(rt, files.certificate)
-        || match files.anacrontab {
-            Some(path) => is_no_file(rt, path),
-            None => false,
+    let jobs = files.anacrontab.unwrap_or(files.table);
+    for path in [files.table, files.declarations, files.certificate, jobs] {
+        if let Ok(found) = fs::metadata(rt, path) {
+            if !found.is_file() {
+                return true;
+            }
         }
+    }
+    false
 }
 
 /// Opens a log, at whose end is written.

@@ -3,7 +3,7 @@ use cs_args::version_text;
 use cs_civil::{Minute, date_text};
 use cs_crontab::Line;
 use cs_daemon::Cause;
-use cs_machine::{ClockBack, HookCall, JobNote, Remarks, RunLog, Setup, ToldFile, push_hex};
+use cs_machine::{ClockBack, HookCall, JobNote, Remarks, RunLog, Setup, ToldFile};
 use cs_ruling::Order;
 use cs_table::Setting;
 use std::alloc::Global;
@@ -144,17 +144,12 @@ fn opening(alloc: Global, order: &Order<'_>) -> io::Result<Vec<u8>> {
 /// The SHA-256 of a file, by which it is told apart from another.
 fn digest_line(alloc: Global, file: &str, digest: &[u8]) -> io::Result<Vec<u8>> {
     let mut line = Vec::new(alloc);
-    write!(line, "{file} sha256 ")?;
-    push_hex(&mut line, digest)?;
+    let digits = hex::encode(alloc, digest)?;
+    write!(line, "{file} sha256 {digits}")?;
     Ok(line)
 }
 
-/// Whether cron would heed a setting by mailing what jobs print.
-fn is_mail(setting: &Setting) -> bool {
-    setting.name() == b"MAILTO".as_slice() && !setting.value().is_empty()
-}
-
-/// That such a setting has no effect.
+/// That a setting by which cron would mail what jobs print has no effect.
 fn mail_line(alloc: Global, setting: &Setting, table: &str) -> io::Result<Vec<u8>> {
     let mut line = Vec::new(alloc);
     let number = setting.number();
@@ -182,7 +177,7 @@ impl<'a, 'r, R: Clock + Files + Wait, W: Write> Hand<'a, 'r, R, W> {
     /// Notes which settings of a table would send mail by cron.
     fn note_mail(&mut self, alloc: Global, settings: &[Setting], table: &str) {
         for setting in settings {
-            if is_mail(setting) {
+            if setting.name() == b"MAILTO".as_slice() && !setting.value().is_empty() {
                 self.note_made(mail_line(alloc, setting, table));
             }
         }

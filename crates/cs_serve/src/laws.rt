@@ -1,6 +1,6 @@
 //! What an order to run says once it was served, by its status and its keep.
 ghost use Rattle.std.specs.Prelude.{◌≡◌, ◌⊎◌, ◌≤◌, ℕ, IfSome, List, Option, codes};
-ghost use Rattle.cs_args.specs.CommandLine.{AskedRun};
+ghost use Rattle.cs_args.specs.Asked.{AskedRun};
 ghost use Rattle.cs_ruling.specs.Answer.{IsOrder};
 ghost use Rattle.cs_ruling.specs.declared.answer.Order.{Order};
 ghost use Rattle.cs_io.specs.Files.{Failed};

@@ -2,7 +2,6 @@
 ghost use Rattle.std.specs.Prelude.{◌≡◌, ◌<◌, ◌++◌, IfOk, OnOk, drop, length, map, option_and_then, slice_get};
 ghost use Rattle.cs_plan.specs.Plan.{as_plan};
 ghost use Rattle.cs_history.specs.Lists.{below};
-ghost use Rattle.cs_history.specs.Plan.{rivals, takes_lock};
 ghost use Rattle.cs_serve.specs.Notes.{may_meet, note, peer, peers, schedule_in};
 
 use cs_civil::Bytes;
@@ -13,33 +12,18 @@ use cs_plan::{Job, Plan};
 use cs_schedule::Schedule;
 use std::alloc::{AllocError, Global};
 
-/// Whether runs of a job take their group's lock.
-fn takes_lock(plan: &Plan, number: usize) -> bool
-    requires { number < length plan.now.jobs }
-    ensures { result ≡ takes_lock (as_plan plan.now) number }
-{
-    plan.jobs()[number].mode().takes_lock()
-}
-
-/// Whether two jobs belong to one exclusive group.
-fn are_rivals(plan: &Plan, number: usize, other: usize) -> bool
-    requires first { number < length plan.now.jobs }
-    requires second { other < length plan.now.jobs }
-    ensures { result ≡ rivals (as_plan plan.now) number other }
-{
-    let jobs = plan.jobs();
-    plan.is_exclusive(jobs[number].group()) && jobs[other].group() == jobs[number].group()
-}
-
-/// Whether a run of one job may meet a late run of another.
+/// Whether a run of one job may meet a late run of another: both belong to one exclusive group, and
+/// not both take its lock.
 fn may_meet(plan: &Plan, late: usize, other: usize) -> bool
     requires first { late < length plan.now.jobs }
     requires second { other < length plan.now.jobs }
     ensures { result ≡ may_meet (as_plan plan.now) late other }
 {
-    are_rivals(plan, late, other)
+    let (one, peer) = (&plan.jobs()[late], &plan.jobs()[other]);
+    plan.is_exclusive(one.group())
+        && peer.group() == one.group()
         && (late < plan.crons() || other < plan.crons())
-        && !(takes_lock(plan, late) && takes_lock(plan, other))
+        && !(one.mode().takes_lock() && peer.mode().takes_lock())
 }
 
 /// Adds the name of a job, behind a comma, if its runs may meet a late run of the other.

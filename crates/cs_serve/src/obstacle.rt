@@ -2,7 +2,6 @@
 ghost use Rattle.std.specs.Prelude.{◌≡◌};
 ghost use Rattle.cs_serve.specs.Serve.{in_front, named};
 
-use cs_machine::LockFault;
 use cs_ruling::Order;
 
 /// Why an order isn't served.
@@ -25,13 +24,6 @@ pub(crate) enum Obstacle {
 }
 
 impl Obstacle {
-    pub(crate) fn of(fault: LockFault) -> Obstacle {
-        match fault {
-            LockFault::InUse => Obstacle::InUse,
-            LockFault::Failed => Obstacle::Unlocked,
-        }
-    }
-
     /// What is said of it, in front of the path.
     pub(crate) fn text(self) -> &'static str
         ensures { result.now ≡ in_front self }

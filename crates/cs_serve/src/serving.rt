@@ -423,7 +423,8 @@ fn enter<'r, 'f, R: Files<File = File> + Clock>(
     };
     let lock = match lock(rt, folder) {
         Ok(lock) => lock,
-        Err(fault) => return Err(Obstacle::of(fault)),
+        Err(LockFault::InUse) => return Err(Obstacle::InUse),
+        Err(LockFault::Failed) => return Err(Obstacle::Unlocked),
     };
     if files.clear(rt).is_err() {
         return Err(Obstacle::RequestStays);

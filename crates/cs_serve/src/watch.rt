@@ -131,25 +131,15 @@ impl<'a, 'r, R: Files + Clock + Wait, W: Write> Watch<'a, 'r, R, W> {
         true
     }
 
-    /// Notes why the files aren't accepted, and tells it to who asked.
-    fn reject(&mut self, rejection: &Rejection) {
+    /// Notes why the files aren't accepted, and tells it to who asked. No new plan is accepted then.
+    fn reject(&mut self, rejection: &Rejection) -> bool {
         self.hand.note(b"reload refused, the old plan goes on");
         let (first, second) = rejection.texts();
         for text in [first, second] {
             self.hand.note_lines(text);
         }
         let _ = self.answer(rejection.status(), first, second);
-    }
-
-    /// Takes what the files hold now, or notes why not. Whether a new plan is accepted.
-    fn take_or_reject(&mut self, read: Result<Accepted, Rejection>) -> bool {
-        match read {
-            Ok(accepted) => self.take(accepted),
-            Err(rejection) => {
-                self.reject(&rejection);
-                false
-            }
-        }
+        false
     }
 }
 
@@ -159,8 +149,10 @@ impl<'a, 'r, R: Files + Input + Clock + Wait + Processes, W: Write> Attendant
         let is_asked = if self.is_stop_there() {
             true
         } else if self.is_reload_there() {
-            let read = read_anew(self.rt, self.alloc, &self.words);
-            self.take_or_reject(read)
+            match read_anew(self.rt, self.alloc, &self.words) {
+                Ok(accepted) => self.take(accepted),
+                Err(rejection) => self.reject(&rejection),
+            }
         } else {
             false
         };

@@ -2,7 +2,7 @@
 use Rattle.std.proofs.Common.{◌≡◌, ℕ, List, [], Option, Some, None, IfSome, Ok, Err, ap, inl, inr, option_map, refl, subst, sym}
 use Rattle.cs_crontab.specs.Crontab.{Table}
 use Rattle.cs_anacrontab.specs.Anacrontab.{Table as JobTable}
-use Rattle.cs_args.specs.CommandLine.{Asked}
+use Rattle.cs_args.specs.Asked.{Asked}
 use Rattle.cs_args.specs.Question.{IsBadWord, IsQuestion, Question}
 use Rattle.cs_args.specs.Words.{word_fault}
 use Rattle.cs_args.specs.declared.question.WordFault.{WordFault}

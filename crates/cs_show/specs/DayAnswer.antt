@@ -6,7 +6,7 @@ use Rattle.cs_crontab.specs.declared.table.When.TheVariants.{At, Reboot}
 use Rattle.cs_crontab.specs.Crontab.{CommandLine, Table}
 use Rattle.cs_anacrontab.specs.Anacrontab.{JobLine, Table as JobTable}
 use Rattle.cs_report.specs.Warning.{warnings as warnings_text}
-use Rattle.cs_args.specs.CommandLine.{Asked}
+use Rattle.cs_args.specs.Asked.{Asked}
 use Rattle.cs_args.specs.Question.{IsBadWord, IsQuestion, Question}
 use Rattle.cs_args.specs.Words.{word_fault}
 use Rattle.cs_args.specs.declared.question.WordFault.{WordFault}

@@ -13,7 +13,7 @@ use Rattle.cs_report.specs.declared.script.TheConstants.{MAX_SCRIPT}
 use Rattle.cs_report.specs.declared.script_fault.ScriptFault.TheVariants.{TooLong}
 use Rattle.cs_retrace.specs.Script.{IsRetraced}
 use Rattle.cs_retrace.specs.Trace.{traced}
-use Rattle.cs_args.specs.CommandLine.{AskedReplay}
+use Rattle.cs_args.specs.Asked.{AskedReplay}
 use Rattle.cs_args.specs.declared.question.WordFault.TheVariants.{BadMax}
 use Rattle.cs_io.specs.Files.{Failed}
 use Rattle.cs_files.specs.Reads.{AndThen, Answered, Gives, GivesSome, ReadsAs, ReadsDeclared}

@@ -1,7 +1,5 @@
 //! The answer of `day`.
-ghost use Rattle.std.specs.Prelude.{◌≡◌, ◌++◌, ◌-◌, ◌*◌, ◌≤◌, OnOk, IfOk, [], ◌∷◌, string_bytes, flat_map, map};
-ghost use Rattle.std.specs.List.{range_with_len};
-ghost use Rattle.cs_civil.specs.Calendar.{kind};
+ghost use Rattle.std.specs.Prelude.{◌≡◌, ◌++◌, ◌-◌, ◌*◌, ◌≤◌, OnOk, [], ◌∷◌, flat_map};
 ghost use Rattle.cs_show.specs.DayText.{catch_up_text, clock, date_line, days_apart, due_text, end_text, identifier_line, job_text, start_text, weekday_part, window_text};
 
 use cs_civil::{Day, Hours, day_text, four_days, kind_of, weekday_name};

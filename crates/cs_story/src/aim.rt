@@ -1,7 +1,7 @@
 use crate::breach::{Breach, Rule};
 use crate::collision::collisions;
 use crate::load::overload;
-use crate::part::is_of;
+use crate::part::takes_lock_of;
 use crate::wanted::{Wanted, runs_of, task_of};
 use cs_plan::Plan;
 use cs_profile::Facts;
@@ -26,65 +26,38 @@ impl Aim {
 
     /// How many of the runs have to wait.
     pub(crate) fn queueing(&self) -> usize {
-        self.runs
-            .as_slice()
-            .iter()
-            .filter(|run| run.queues())
-            .count()
-    }
-}
-
-/// Whether the run takes the lock of this group.
-fn takes_lock_of(facts: &Facts, run: Wanted, group: u8) -> bool {
-    match task_of(facts, run.job) {
-        Some(task) => task.mode.takes_lock() && is_of(facts, run, group),
-        None => false,
-    }
-}
-
-/// Each of the plainest runs by which the lock of the group is held when the skip job is due.
-fn blockings(
-    alloc: Global,
-    facts: &Facts,
-    runs: &[Wanted],
-    group: u8,
-    barred: Wanted,
-) -> Result<Vec<Aim>, AllocError> {
-    let mut aims: Vec<Aim> = Vec::new(alloc);
-    for run in runs {
-        if aims.len() >= MAX_AIMS {
-            break;
+        let mut queueing: usize = 0;
+        for run in self.runs.as_slice() {
+            queueing = queueing.saturating_add(usize::from(run.queues()));
         }
-        if *run != barred && takes_lock_of(facts, *run, group) {
-            aims.push(Aim::pair(alloc, *run, barred)?)?;
-        }
+        queueing
     }
-    Ok(aims)
 }
 
-/// The same, where the skip job is of a group.
+/// Each of the plainest runs by which the lock of its group is held when the skip job is due.
 fn blocked(
     alloc: Global,
     facts: &Facts,
     runs: &[Wanted],
     barred: Wanted,
 ) -> Result<Vec<Aim>, AllocError> {
-    let Some(task) = task_of(facts, barred.job) else {
-        return Ok(Vec::new(alloc));
+    let mut aims: Vec<Aim> = Vec::new(alloc);
+    let group = match task_of(facts, barred.job) {
+        Some(task) => task.group,
+        None => None,
     };
-    match task.group {
-        Some(group) => blockings(alloc, facts, runs, group, barred),
-        None => Ok(Vec::new(alloc)),
+    let Some(group) = group else {
+        return Ok(aims);
+    };
+    for run in runs {
+        if aims.len() >= MAX_AIMS {
+            break;
+        }
+        if *run != barred && takes_lock_of(facts, run.job, group) {
+            aims.push(Aim::pair(alloc, *run, barred)?)?;
+        }
     }
-}
-
-/// The run that begins at this minute, when its job is due.
-fn begun_at(job: u16, due: u64) -> Wanted {
-    Wanted {
-        job,
-        due,
-        start: due,
-    }
+    Ok(aims)
 }
 
 /// What a story of this breach may aim at, the plainest first.
@@ -99,7 +72,12 @@ pub(crate) fn aims(
         Rule::Collision => collisions(alloc, plan, facts, runs.as_slice()),
         Rule::OverCapacity => overload(alloc, plan, facts, runs.as_slice()),
         Rule::SkipBlocked { skip } => {
-            blocked(alloc, facts, runs.as_slice(), begun_at(skip, breach.at))
+            let barred = Wanted {
+                job: skip,
+                due: breach.at,
+                start: breach.at,
+            };
+            blocked(alloc, facts, runs.as_slice(), barred)
         },
     }
 }

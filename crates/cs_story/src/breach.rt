@@ -1,5 +1,5 @@
 /// The rule about windows that is broken.
-#[derive(Clone, Copy, Debug, PartialEq, Eq)]
+#[derive(Clone, Copy)]
 pub enum Rule {
     /// Two windows of an exclusive group meet.
     Collision,
@@ -10,7 +10,7 @@ pub enum Rule {
 }
 
 /// A window by civil minutes, counted since 1970-01-01: in `[from, to)` one run of the job may go on.
-#[derive(Clone, Copy, Debug, PartialEq, Eq)]
+#[derive(Clone, Copy)]
 pub struct Span {
     pub job: u16,
     pub from: u64,
@@ -18,7 +18,7 @@ pub struct Span {
 }
 
 /// A civil minute at which windows break a rule.
-#[derive(Debug, Drop)]
+#[derive(Drop)]
 pub struct Breach {
     pub rule: Rule,
     /// The minute, counted since 1970-01-01.

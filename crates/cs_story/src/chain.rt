@@ -1,6 +1,6 @@
 //! How other runs hold the lock of a group without a gap, so that a run gets it late.
 use crate::part::{Part, is_of, part_of};
-use crate::wanted::{MINUTES_OF_DAY, Wanted, task_of};
+use crate::wanted::{MINUTES_OF_DAY, Wanted, is_wanted, task_of};
 use cs_profile::{Calendar, Facts};
 use std::alloc::{AllocError, Global};
 
@@ -42,32 +42,13 @@ struct Hold {
     is_shared: bool,
 }
 
-/// What is wanted of the chain for a run that waits.
-fn hold_for(facts: &Facts, run: Wanted) -> Option<Hold> {
-    let own = task_of(facts, run.job)?;
-    Some(Hold {
-        group: own.group?,
-        due: run.due,
-        start: run.start,
-        is_shared: part_of(facts, run) == Some(Part::Sharer),
-    })
-}
-
-/// What is wanted of one chain for both, which are of one group.
-fn joined(one: Hold, other: Hold) -> Hold {
-    Hold {
-        group: one.group,
-        due: one.due.min(other.due),
-        start: one.start.max(other.start),
-        is_shared: one.is_shared && other.is_shared,
-    }
-}
-
 /// Adds what is wanted of a chain, or joins it to what is wanted of that group's.
 fn add_hold(holds: &mut Vec<Hold>, hold: Hold) -> Result<(), AllocError> {
     for own in holds.iter_mut() {
         if own.group == hold.group {
-            *own = joined(*own, hold);
+            own.due = own.due.min(hold.due);
+            own.start = own.start.max(hold.start);
+            own.is_shared = own.is_shared && hold.is_shared;
             return Ok(());
         }
     }
@@ -79,10 +60,18 @@ fn add_hold(holds: &mut Vec<Hold>, hold: Hold) -> Result<(), AllocError> {
 fn holds_for(alloc: Global, facts: &Facts, runs: &[Wanted]) -> Result<Vec<Hold>, AllocError> {
     let mut holds: Vec<Hold> = Vec::new(alloc);
     for run in runs {
-        if run.queues() {
-            if let Some(hold) = hold_for(facts, *run) {
-                add_hold(&mut holds, hold)?;
-            }
+        let group = match task_of(facts, run.job) {
+            Some(own) if run.queues() => own.group,
+            _ => None,
+        };
+        if let Some(group) = group {
+            let hold = Hold {
+                group,
+                due: run.due,
+                start: run.start,
+                is_shared: part_of(facts, run.job) == Some(Part::Sharer),
+            };
+            add_hold(&mut holds, hold)?;
         }
     }
     Ok(holds)
@@ -101,21 +90,19 @@ struct Link {
 }
 
 impl Link {
-    /// With the run of mode try of this job.
-    fn add_tried(&mut self, job: u16, minutes: u64) {
-        if minutes > self.tried {
-            self.tried = minutes;
-            self.job = job;
+    /// With the run of another job, of mode try or of another one.
+    fn add(&mut self, part: Part, is_try: bool, job: u16, minutes: u64) {
+        if is_try {
+            if minutes > self.tried {
+                self.tried = minutes;
+                self.job = job;
+            }
+            return;
         }
-    }
-
-    /// With the run of another job.
-    fn add(&mut self, part: Part, minutes: u64) {
         match part {
             Part::Holder => self.alone = self.alone.saturating_add(minutes),
             Part::Sharer => self.shared = self.shared.max(minutes),
-            Part::Free => {}
-            Part::CatchUp => {}
+            Part::Free | Part::CatchUp => {}
         }
     }
 
@@ -129,33 +116,19 @@ impl Link {
     }
 }
 
-/// Whether a run of this job due at this minute is one of these.
-fn is_wanted(runs: &[Wanted], job: u16, due: u64) -> bool {
-    runs.iter().any(|run| run.job == job && run.due == due)
-}
-
 /// Adds the runs of a job on a day, but the wanted ones.
 fn add_job(links: &mut Vec<Link>, facts: &Facts, runs: &[Wanted], job: u16, midnight: u64) {
     let Some(own) = task_of(facts, job) else {
         return;
     };
-    let run = Wanted {
-        job,
-        due: midnight,
-        start: midnight,
-    };
-    let Some(part) = part_of(facts, run) else {
+    let Some(part) = part_of(facts, job) else {
         return;
     };
     let minutes = u64::from(own.max.saturating_sub(1));
     for minute in own.minutes.as_slice() {
         if !is_wanted(runs, job, midnight.saturating_add(u64::from(*minute))) {
             if let Some(link) = links.get_mut(usize::from(*minute)) {
-                if own.is_try() {
-                    link.add_tried(job, minutes);
-                } else {
-                    link.add(part, minutes);
-                }
+                link.add(part, own.is_try(), job, minutes);
             }
         }
     }
@@ -178,12 +151,7 @@ fn links_on(
     };
     let mut links: Vec<Link> = Vec::from_elem(alloc, none, MINUTES_OF_DAY as usize)?;
     for job in due {
-        let run = Wanted {
-            job: *job,
-            due: midnight,
-            start: midnight,
-        };
-        if is_of(facts, run, group) {
+        if is_of(facts, *job, group) {
             add_job(&mut links, facts, runs, *job, midnight);
         }
     }

@@ -9,14 +9,6 @@ use std::alloc::{AllocError, Global};
 /// How many runs of one part are looked at.
 const PLAINEST: usize = 3;
 
-/// How many of these have the part of this run.
-fn alike(facts: &Facts, runs: &[Wanted], run: Wanted) -> usize {
-    let wanted = part_of(facts, run);
-    runs.iter()
-        .filter(|other| part_of(facts, **other) == wanted)
-        .count()
-}
-
 /// The plainest runs of each part of a group.
 fn plainest(
     alloc: Global,
@@ -26,43 +18,30 @@ fn plainest(
 ) -> Result<Vec<Wanted>, AllocError> {
     let mut chosen: Vec<Wanted> = Vec::new(alloc);
     for run in runs {
-        if is_of(facts, *run, group) && alike(facts, chosen.as_slice(), *run) < PLAINEST {
+        let part = part_of(facts, run.job);
+        let mut alike: usize = 0;
+        for other in chosen.as_slice() {
+            let is_alike = part_of(facts, other.job) == part;
+            alike = alike.saturating_add(usize::from(is_alike));
+        }
+        if is_of(facts, run.job, group) && alike < PLAINEST {
             chosen.push(*run)?;
         }
     }
     Ok(chosen)
 }
 
-/// Whether a run of the one part and a run of the other of one exclusive group can go on at once: its lock keeps its own
-/// takers apart, and anacron its jobs.
-fn can_meet(one: Part, other: Part) -> bool {
+/// Whether two runs of one exclusive group can go on at once: its lock keeps its own takers apart, and anacron its jobs.
+fn can_clash(facts: &Facts, one: Wanted, other: Wanted) -> bool {
+    let Some(one) = part_of(facts, one.job) else {
+        return false;
+    };
+    let Some(other) = part_of(facts, other.job) else {
+        return false;
+    };
     let is_locked = one.takes_lock() && other.takes_lock();
     let is_in_turn = one == Part::CatchUp && other == Part::CatchUp;
     !is_locked && !is_in_turn
-}
-
-/// The same of two runs.
-fn can_clash(facts: &Facts, one: Wanted, other: Wanted) -> bool {
-    match (part_of(facts, one), part_of(facts, other)) {
-        (Some(one), Some(other)) => can_meet(one, other),
-        _ => false,
-    }
-}
-
-/// Adds this run with each of these that it can clash with.
-fn add_pairs_with(
-    alloc: Global,
-    aims: &mut Vec<Aim>,
-    facts: &Facts,
-    runs: &[Wanted],
-    other: Wanted,
-) -> Result<(), AllocError> {
-    for one in runs {
-        if can_clash(facts, *one, other) {
-            aims.push(Aim::pair(alloc, *one, other)?)?;
-        }
-    }
-    Ok(())
 }
 
 /// Adds each two of these that can clash.
@@ -73,7 +52,11 @@ fn add_pairs(
     runs: &[Wanted],
 ) -> Result<(), AllocError> {
     for (place, other) in runs.iter().enumerate() {
-        add_pairs_with(alloc, aims, facts, &runs[..place], *other)?;
+        for one in &runs[..place] {
+            if can_clash(facts, *one, *other) {
+                aims.push(Aim::pair(alloc, *one, *other)?)?;
+            }
+        }
     }
     Ok(())
 }

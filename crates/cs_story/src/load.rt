@@ -1,6 +1,6 @@
 //! Runs that weigh more than the capacity and can go on at once.
 use crate::aim::Aim;
-use crate::part::{Part, is_of, plays, weight};
+use crate::part::{Part, is_of, part_of, weight};
 use crate::wanted::Wanted;
 use cs_plan::Plan;
 use cs_profile::Facts;
@@ -10,10 +10,10 @@ use std::cmp::Reverse;
 /// Whether the run is of this part, and of the group if one is named.
 fn belongs(facts: &Facts, run: Wanted, part: Part, group: Option<u8>) -> bool {
     let is_member = match group {
-        Some(group) => is_of(facts, run, group),
+        Some(group) => is_of(facts, run.job, group),
         None => true,
     };
-    is_member && plays(facts, run, part)
+    is_member && part_of(facts, run.job) == Some(part)
 }
 
 /// The first of the heaviest runs of this part and group.
@@ -21,23 +21,12 @@ fn heaviest(facts: &Facts, runs: &[Wanted], part: Part, group: Option<u8>) -> Op
     let mut most = 0;
     let mut found = None;
     for run in runs {
-        if belongs(facts, *run, part, group) && weight(facts, *run) > most {
-            most = weight(facts, *run);
+        if belongs(facts, *run, part, group) && weight(facts, run.job) > most {
+            most = weight(facts, run.job);
             found = Some(*run);
         }
     }
     found
-}
-
-/// What all runs of this part and group weigh together.
-fn total(facts: &Facts, runs: &[Wanted], part: Part, group: Option<u8>) -> u64 {
-    let mut sum: u64 = 0;
-    for run in runs {
-        if belongs(facts, *run, part, group) {
-            sum = sum.saturating_add(u64::from(weight(facts, *run)));
-        }
-    }
-    sum
 }
 
 /// Adds all runs of this part and group.
@@ -63,9 +52,14 @@ fn add_group(
     runs: &[Wanted],
     group: u8,
 ) -> Result<(), AllocError> {
-    let shared = total(facts, runs, Part::Sharer, Some(group));
+    let mut shared: u64 = 0;
+    for run in runs {
+        if belongs(facts, *run, Part::Sharer, Some(group)) {
+            shared = shared.saturating_add(u64::from(weight(facts, run.job)));
+        }
+    }
     if let Some(run) = heaviest(facts, runs, Part::Holder, Some(group)) {
-        if u64::from(weight(facts, run)) >= shared {
+        if u64::from(weight(facts, run.job)) >= shared {
             chosen.push(run)?;
             return Ok(());
         }
@@ -88,32 +82,26 @@ fn heaviest_together(
     if let Some(run) = heaviest(facts, runs, Part::CatchUp, None) {
         chosen.push(run)?;
     }
-    chosen.sort_by_key(|run| Reverse(weight(facts, *run)))?;
+    chosen.sort_by_key(|run| Reverse(weight(facts, run.job)))?;
     Ok(chosen)
 }
 
-/// As many of these, from the first on, as weigh more than the capacity.
-fn enough(alloc: Global, plan: &Plan, facts: &Facts, runs: &[Wanted]) -> Result<Aim, AllocError> {
-    let mut sum: u64 = 0;
-    let mut chosen: Vec<Wanted> = Vec::new(alloc);
-    for run in runs {
-        if sum <= u64::from(plan.capacity()) {
-            sum = sum.saturating_add(u64::from(weight(facts, *run)));
-            chosen.push(*run)?;
-        }
-    }
-    Ok(Aim { runs: chosen })
-}
-
-/// The fewest runs that can go on at once and weigh more than the capacity.
+/// The fewest runs that can go on at once and weigh more than the capacity: as many of the heaviest as it takes.
 pub(crate) fn overload(
     alloc: Global,
     plan: &Plan,
     facts: &Facts,
     runs: &[Wanted],
 ) -> Result<Vec<Aim>, AllocError> {
-    let chosen = heaviest_together(alloc, plan, facts, runs)?;
+    let mut sum: u64 = 0;
+    let mut chosen: Vec<Wanted> = Vec::new(alloc);
+    for run in heaviest_together(alloc, plan, facts, runs)?.as_slice() {
+        if sum <= u64::from(plan.capacity()) {
+            sum = sum.saturating_add(u64::from(weight(facts, run.job)));
+            chosen.push(*run)?;
+        }
+    }
     let mut aims: Vec<Aim> = Vec::new(alloc);
-    aims.push(enough(alloc, plan, facts, chosen.as_slice())?)?;
+    aims.push(Aim { runs: chosen })?;
     Ok(aims)
 }

@@ -1,9 +1,10 @@
 //! What happens within a minute of a story.
-use crate::chain::{Chain, Tried};
+use crate::chain::Chain;
+use crate::part::takes_lock_of;
 use crate::play::{Ending, Play};
 use crate::plot::Plot;
 use crate::wanted::task_of;
-use cs_history::{Event, Going, Mode, Run};
+use cs_history::{Event, Mode, Run};
 
 /// The first job that is due and that no wanted run is of.
 fn unwanted_job(play: &Play, plot: &Plot<'_>) -> Option<u16> {
@@ -15,14 +16,6 @@ fn unwanted_job(play: &Play, plot: &Plot<'_>) -> Option<u16> {
     None
 }
 
-/// Ends the run, if it started.
-fn end_if_started(play: &mut Play, run: Run) -> Result<(), Ending> {
-    if play.core().running().contains(run) {
-        play.take(Event::End(run))?;
-    }
-    Ok(())
-}
-
 /// Begins the jobs that are due, but those of wanted runs. Their runs end at once, unless they are to hold a lock.
 fn begin_unwanted(play: &mut Play, plot: &Plot<'_>) -> Result<(), Ending> {
     let at = play.now();
@@ -31,20 +24,12 @@ fn begin_unwanted(play: &mut Play, plot: &Plot<'_>) -> Result<(), Ending> {
             return Ok(());
         };
         play.take(Event::Begin(job))?;
-        if !plot.links(job, at) {
-            end_if_started(play, Run { job, at })?;
+        let run = Run { job, at };
+        if !plot.links(job, at) && play.core().running().contains(run) {
+            play.take(Event::End(run))?;
         }
     }
     Ok(())
-}
-
-/// Whether the run is in its last minute.
-fn is_in_last_minute(plot: &Plot<'_>, going: Going, now: u64) -> bool {
-    let max = match task_of(plot.facts, going.run.job) {
-        Some(task) => u64::from(task.max),
-        None => 0,
-    };
-    now.saturating_add(1) >= going.since.saturating_add(max)
 }
 
 /// A run of a chain that has to end in this minute.
@@ -52,8 +37,14 @@ fn held_out(play: &Play, plot: &Plot<'_>, chain: Chain) -> Option<Run> {
     let now = play.now();
     for going in play.core().running().iter() {
         let run = going.run;
-        let is_link = plot.takes_lock_of(run.job, chain.group) && !plot.wants(run.job, run.at);
-        if is_link && (now >= chain.to || is_in_last_minute(plot, going, now)) {
+        let is_link = takes_lock_of(plot.facts, run.job, chain.group)
+            && !plot.wants(run.job, run.at);
+        let max = match task_of(plot.facts, run.job) {
+            Some(task) => u64::from(task.max),
+            None => 0,
+        };
+        let is_last_minute = now.saturating_add(1) >= going.since.saturating_add(max);
+        if is_link && (now >= chain.to || is_last_minute) {
             return Some(run);
         }
     }
@@ -75,25 +66,15 @@ fn end_links(play: &mut Play, plot: &Plot<'_>, chain: Chain) -> Result<(), Endin
 fn holder(play: &Play, plot: &Plot<'_>, group: u8) -> Option<Run> {
     for going in play.core().running().iter() {
         let run = going.run;
-        if plot.takes_lock_of(run.job, group) && !plot.wants(run.job, run.at) {
+        if takes_lock_of(plot.facts, run.job, group) && !plot.wants(run.job, run.at) {
             return Some(run);
         }
     }
     None
 }
 
-/// Begins a run of mode try, after those have ended that hold its lock.
-fn begin_tried(play: &mut Play, plot: &Plot<'_>, tried: Tried) -> Result<(), Ending> {
-    for _ in 0..play.core().running().len() {
-        if let Some(run) = holder(play, plot, tried.group) {
-            play.take(Event::End(run))?;
-        }
-    }
-    play.take(Event::Begin(tried.job))
-}
-
-/// Begins the runs of mode try of chains that are due.
-fn begin_all_tried(play: &mut Play, plot: &Plot<'_>) -> Result<(), Ending> {
+/// Begins the runs of mode try of chains that are due, each after those have ended that hold its lock.
+fn begin_tried(play: &mut Play, plot: &Plot<'_>) -> Result<(), Ending> {
     let now = play.now();
     let first = plot.tried.as_slice().partition_point(|it| it.due < now);
     let Some(rest) = plot.tried.as_slice().get(first..) else {
@@ -103,7 +84,12 @@ fn begin_all_tried(play: &mut Play, plot: &Plot<'_>) -> Result<(), Ending> {
         if tried.due != now {
             return Ok(());
         }
-        begin_tried(play, plot, *tried)?;
+        for _ in 0..play.core().running().len() {
+            if let Some(run) = holder(play, plot, tried.group) {
+                play.take(Event::End(run))?;
+            }
+        }
+        play.take(Event::Begin(tried.job))?;
     }
     Ok(())
 }
@@ -213,7 +199,7 @@ fn settle(play: &mut Play, plot: &Plot<'_>) -> Result<(), Ending> {
 /// What happens in the present minute, after which the daemon goes down or the clock goes on.
 pub(crate) fn live(play: &mut Play, plot: &Plot<'_>, goes_on: bool) -> Result<(), Ending> {
     if goes_on {
-        begin_all_tried(play, plot)?;
+        begin_tried(play, plot)?;
         begin_unwanted(play, plot)?;
     }
     follow_chains(play, plot)?;

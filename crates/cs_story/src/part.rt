@@ -1,4 +1,4 @@
-use crate::wanted::{Wanted, task_of};
+use crate::wanted::task_of;
 use cs_profile::Facts;
 
 /// How the runs of a job go on beside others.
@@ -21,9 +21,9 @@ impl Part {
     }
 }
 
-/// The part of a run, if its job is one of the plan.
-pub(crate) fn part_of(facts: &Facts, run: Wanted) -> Option<Part> {
-    let task = task_of(facts, run.job)?;
+/// The part of the runs of a job, if it is one of the plan.
+pub(crate) fn part_of(facts: &Facts, job: u16) -> Option<Part> {
+    let task = task_of(facts, job)?;
     if !task.is_cron {
         return Some(Part::CatchUp);
     }
@@ -37,25 +37,25 @@ pub(crate) fn part_of(facts: &Facts, run: Wanted) -> Option<Part> {
     })
 }
 
-/// Whether the run is of this part.
-pub(crate) fn plays(facts: &Facts, run: Wanted, wanted: Part) -> bool {
-    match part_of(facts, run) {
-        Some(part) => part == wanted,
-        None => false,
-    }
-}
-
-/// Whether the run's job belongs to this group.
-pub(crate) fn is_of(facts: &Facts, run: Wanted, group: u8) -> bool {
-    match task_of(facts, run.job) {
+/// Whether the job belongs to this group.
+pub(crate) fn is_of(facts: &Facts, job: u16, group: u8) -> bool {
+    match task_of(facts, job) {
         Some(task) => task.group == Some(group),
         None => false,
     }
 }
 
-/// What the run weighs.
-pub(crate) fn weight(facts: &Facts, run: Wanted) -> u8 {
-    match task_of(facts, run.job) {
+/// Whether the job belongs to this group, and takes its lock.
+pub(crate) fn takes_lock_of(facts: &Facts, job: u16, group: u8) -> bool {
+    match task_of(facts, job) {
+        Some(task) => task.mode.takes_lock() && task.group == Some(group),
+        None => false,
+    }
+}
+
+/// What a run of the job weighs.
+pub(crate) fn weight(facts: &Facts, job: u16) -> u8 {
+    match task_of(facts, job) {
         Some(task) => task.weight,
         None => 0,
     }

@@ -12,7 +12,7 @@ use std::alloc::{AllocError, Global};
 const MAX_EVENTS: usize = 400_000;
 
 /// Why a story goes no further.
-#[derive(Debug, Drop)]
+#[derive(Drop)]
 pub(crate) enum Ending {
     /// Something is broken.
     Broken,
@@ -43,12 +43,13 @@ impl From<NotShown> for Ending {
 /// The events of a story, each of which was tried.
 #[derive(Drop)]
 pub(crate) struct Play {
-    trial: Trial,
-    events: Sequence<Event>,
+    pub trial: Trial,
+    /// The events.
+    pub events: Sequence<Event>,
     /// How many looks are left.
-    looks: u64,
+    pub looks: u64,
     /// How often an event has all runs looked at.
-    rounds: u64,
+    pub rounds: u64,
 }
 
 impl Play {
@@ -68,11 +69,6 @@ impl Play {
             looks,
             rounds,
         })
-    }
-
-    /// How many looks are left.
-    pub(crate) fn looks(&self) -> u64 {
-        self.looks
     }
 
     /// What the events have left.
@@ -107,16 +103,5 @@ impl Play {
             Some(_) => Err(Ending::Broken),
             None => Ok(()),
         }
-    }
-
-    /// The events.
-    pub(crate) fn into_events(self) -> Sequence<Event> {
-        let Play {
-            trial: _,
-            events,
-            looks: _,
-            rounds: _,
-        } = self;
-        events
     }
 }

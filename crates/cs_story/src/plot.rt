@@ -1,8 +1,8 @@
 use crate::aim::Aim;
 use crate::chain::{Chain, Chains, Tried, chains_for};
-use crate::part::is_of;
+use crate::part::{is_of, takes_lock_of};
 use crate::stay::{Stay, stays_for};
-use crate::wanted::{Wanted, task_of};
+use crate::wanted::{Wanted, is_wanted, task_of};
 use cs_profile::{Calendar, Facts};
 use std::alloc::{AllocError, Global};
 
@@ -26,18 +26,7 @@ fn waits_for(facts: &Facts, chain: Chain, run: Wanted) -> bool {
         Some(task) => task.mode.waits(),
         None => false,
     };
-    waits && is_of(facts, run, chain.group) && chain.from <= run.due && run.due < chain.to
-}
-
-/// The run, which starts with the others of its group if it waits as they do.
-fn put_off(facts: &Facts, chains: &[Chain], run: Wanted) -> Wanted {
-    let mut later = run;
-    for chain in chains {
-        if waits_for(facts, *chain, run) {
-            later.start = later.start.max(chain.to);
-        }
-    }
-    later
+    waits && is_of(facts, run.job, chain.group) && chain.from <= run.due && run.due < chain.to
 }
 
 impl<'a> Plot<'a> {
@@ -56,9 +45,16 @@ impl<'a> Plot<'a> {
             list: chains,
             tried,
         } = found;
+        // a run that waits as others of its group do starts with them
         let mut runs: Vec<Wanted> = Vec::new(alloc);
         for run in aimed {
-            runs.push(put_off(facts, chains.as_slice(), *run))?;
+            let mut later = *run;
+            for chain in chains.as_slice() {
+                if waits_for(facts, *chain, *run) {
+                    later.start = later.start.max(chain.to);
+                }
+            }
+            runs.push(later)?;
         }
         let stays = stays_for(alloc, facts, chains.as_slice(), runs.as_slice())?;
         Ok(Some(Plot {
@@ -72,25 +68,20 @@ impl<'a> Plot<'a> {
 
     /// Whether this run is wanted.
     pub(crate) fn wants(&self, job: u16, due: u64) -> bool {
-        self.runs
-            .as_slice()
-            .iter()
-            .any(|run| run.job == job && run.due == due)
-    }
-
-    /// Whether the job is of this group, and takes its lock.
-    pub(crate) fn takes_lock_of(&self, job: u16, group: u8) -> bool {
-        match task_of(self.facts, job) {
-            Some(task) => task.mode.takes_lock() && task.group == Some(group),
-            None => false,
-        }
+        is_wanted(self.runs.as_slice(), job, due)
     }
 
     /// Whether a run of this job that begins in this minute becomes part of a chain.
     pub(crate) fn links(&self, job: u16, minute: u64) -> bool {
-        self.chains.as_slice().iter().any(|chain| {
-            chain.from <= minute && minute < chain.to && self.takes_lock_of(job, chain.group)
-        })
+        for chain in self.chains.as_slice() {
+            if chain.from <= minute
+                && minute < chain.to
+                && takes_lock_of(self.facts, job, chain.group)
+            {
+                return true;
+            }
+        }
+        false
     }
 
     /// The wanted run that catches up, if there is one.

@@ -12,26 +12,21 @@ pub(crate) struct Stay {
     pub last: u64,
 }
 
-/// The minute in which the run is due, or the chain begins that keeps its lock from it.
-fn first_due(facts: &Facts, chains: &[Chain], run: Wanted) -> u64 {
-    let mut first = run.due;
-    for chain in chains {
-        if run.queues() && is_of(facts, run, chain.group) {
-            first = first.min(chain.from);
-        }
-    }
-    first
-}
-
-/// The shortest stay for a run: what is due in a minute is begun where the daemon was up in the minute before, and a pass that
-/// begins with it waits for the delay of its job.
+/// The shortest stay for a run: what is due in a minute is begun where the daemon was up in the minute before, as is the chain
+/// that keeps its lock from it, and a pass that begins with it waits for the delay of its job.
 fn stay_for(facts: &Facts, chains: &[Chain], run: Wanted) -> Stay {
     let (is_cron, delay) = match task_of(facts, run.job) {
         Some(task) => (task.is_cron, u64::from(task.delay)),
         None => (true, 0),
     };
+    let mut first = run.due;
+    for chain in chains {
+        if run.queues() && is_of(facts, run.job, chain.group) {
+            first = first.min(chain.from);
+        }
+    }
     let up = if is_cron {
-        first_due(facts, chains, run).saturating_sub(1)
+        first.saturating_sub(1)
     } else {
         run.start.saturating_sub(delay)
     };
@@ -39,18 +34,6 @@ fn stay_for(facts: &Facts, chains: &[Chain], run: Wanted) -> Stay {
         up,
         last: run.start,
     }
-}
-
-/// Adds a stay that comes up no sooner than these, or lengthens the last of them.
-fn join(stays: &mut Vec<Stay>, next: Stay) -> Result<(), AllocError> {
-    if let Some(last) = stays.last_mut() {
-        if next.up <= last.last {
-            last.last = last.last.max(next.last);
-            return Ok(());
-        }
-    }
-    stays.push(next)?;
-    Ok(())
 }
 
 /// The stays for these runs, in order. Between them the daemon is down.
@@ -67,7 +50,13 @@ pub(crate) fn stays_for(
     single.sort_by_key(|stay| stay.up)?;
     let mut stays: Vec<Stay> = Vec::new(alloc);
     for stay in single.as_slice() {
-        join(&mut stays, *stay)?;
+        if let Some(last) = stays.last_mut() {
+            if stay.up <= last.last {
+                last.last = last.last.max(stay.last);
+                continue;
+            }
+        }
+        stays.push(*stay)?;
     }
     Ok(stays)
 }

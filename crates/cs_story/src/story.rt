@@ -7,9 +7,8 @@ use crate::moments::live;
 use crate::play::{Ending, Play};
 use crate::plot::Plot;
 use crate::start::start_at;
-use crate::stay::Stay;
 use crate::wanted::MINUTES_OF_DAY;
-use cs_civil::{Minute, Sequence};
+use cs_civil::Minute;
 use cs_history::{Event, Script};
 use cs_plan::Plan;
 use cs_profile::{Calendar, Facts};
@@ -18,53 +17,26 @@ use std::alloc::{AllocError, Global};
 /// 1970-01-04 00:00, before which no history starts.
 const FIRST_START: u64 = 4_320;
 
-/// The daemon comes up for a stay. Before the first it is up from the start on, unless a pass is to begin.
-fn come_up(play: &mut Play, plot: &Plot<'_>, place: usize, stay: Stay) -> Result<(), Ending> {
-    if place > 0 {
-        play.take(Event::Down)?;
-    }
-    if !play.core().is_up() {
-        play.take(Event::Up(stay.up))?;
-    }
-    live(play, plot, stay.up < stay.last)
-}
-
-/// The minutes of a stay.
-fn stay_up(play: &mut Play, plot: &Plot<'_>, stay: Stay) -> Result<(), Ending> {
-    for before in stay.up..stay.last {
-        let minute = before + 1;
-        play.take(Event::Minute(minute))?;
-        live(play, plot, minute < stay.last)?;
-    }
-    Ok(())
-}
-
-/// All stays.
+/// All stays, minute by minute. Before the first the daemon is up from the start on, unless a pass is to begin.
 fn perform(play: &mut Play, plot: &Plot<'_>) -> Result<(), Ending> {
     for (place, stay) in plot.stays.as_slice().iter().enumerate() {
-        come_up(play, plot, place, *stay)?;
-        stay_up(play, plot, *stay)?;
+        if place > 0 {
+            play.take(Event::Down)?;
+        }
+        if !play.core().is_up() {
+            play.take(Event::Up(stay.up))?;
+        }
+        live(play, plot, stay.up < stay.last)?;
+        for before in stay.up..stay.last {
+            let minute = before.saturating_add(1);
+            play.take(Event::Minute(minute))?;
+            live(play, plot, minute < stay.last)?;
+        }
     }
     Ok(())
 }
 
-/// The events of all stays, if they break the plan. Hands back the looks that are left.
-fn breaking_events(
-    mut play: Play,
-    plot: &Plot<'_>,
-    looks: &mut u64,
-) -> Result<Option<Sequence<Event>>, AllocError> {
-    let ended = perform(&mut play, plot);
-    *looks = play.looks();
-    let events = play.into_events();
-    match ended {
-        Err(Ending::Broken) => Ok(Some(events)),
-        Err(Ending::OutOfMemory) => Err(AllocError),
-        Ok(()) | Err(Ending::Stuck) => Ok(None),
-    }
-}
-
-/// The script of a plot, from this minute on, if it breaks the plan.
+/// The script of a plot, from this minute on, if it breaks the plan. Hands back the looks that are left.
 fn script_from(
     alloc: Global,
     plan: &Plan,
@@ -79,10 +51,19 @@ fn script_from(
     }
     let start = start_at(plan, plot, minute);
     let rounds = plot.chains.len() as u64 + 1;
-    let play = Play::open(alloc, plan, &start, *looks, rounds)?;
-    match breaking_events(play, plot, looks)? {
-        Some(events) => Ok(Some(Script { start, events })),
-        None => Ok(None),
+    let mut play = Play::open(alloc, plan, &start, *looks, rounds)?;
+    let ended = perform(&mut play, plot);
+    let Play {
+        trial: _,
+        events,
+        looks: left,
+        rounds: _,
+    } = play;
+    *looks = left;
+    match ended {
+        Err(Ending::Broken) => Ok(Some(Script { start, events })),
+        Err(Ending::OutOfMemory) => Err(AllocError),
+        Ok(()) | Err(Ending::Stuck) => Ok(None),
     }
 }
 

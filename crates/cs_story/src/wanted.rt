@@ -24,17 +24,19 @@ impl Wanted {
     }
 }
 
+/// Whether a run of this job due at this minute is one of these.
+pub(crate) fn is_wanted(runs: &[Wanted], job: u16, due: u64) -> bool {
+    for run in runs {
+        if run.job == job && run.due == due {
+            return true;
+        }
+    }
+    false
+}
+
 /// What the job with this number does.
 pub(crate) fn task_of(facts: &Facts, job: u16) -> Option<&Task> {
     facts.tasks().get(usize::from(job))
-}
-
-/// The last minute of the catch-up hours of the day that this minute is of.
-fn last_of_hours(plan: &Plan, minute: u64) -> u64 {
-    let midnight = minute.saturating_sub(minute % MINUTES_OF_DAY);
-    midnight
-        .saturating_add(u64::from(plan.hours().to()))
-        .saturating_sub(1)
 }
 
 /// The run of a window that goes on at this minute, started as early as will do if its job waits.
@@ -46,7 +48,9 @@ fn run_in(plan: &Plan, facts: &Facts, span: Span, at: u64) -> Option<Wanted> {
     let due = if task.is_cron {
         span.from
     } else {
-        at.min(last_of_hours(plan, span.from))
+        let midnight = span.from.saturating_sub(span.from % MINUTES_OF_DAY);
+        let end_of_hours = midnight.saturating_add(u64::from(plan.hours().to()));
+        at.min(end_of_hours.saturating_sub(1))
     };
     let start = if task.mode.waits() {
         due.max(at.saturating_add(1).saturating_sub(u64::from(task.max)))

@@ -12,7 +12,7 @@ use cs_table::Wrong;
 use cs_table::text::{skip_blanks, word};
 
 /// The content of a line.
-#[derive(Debug, Drop)]
+#[derive(Drop)]
 pub enum SystemEntry<'a> {
     /// Nothing: it is empty, blank or a comment.
     Nothing,

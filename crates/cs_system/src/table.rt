@@ -7,7 +7,7 @@ use cs_table::Setting;
 use std::marker::Model;
 
 /// A command line of a system table.
-#[derive(Debug, Drop)]
+#[derive(Drop)]
 pub struct SystemLine {
     place: u32,
     time: When,
@@ -72,7 +72,7 @@ impl SystemLine {
 
 /// A system table: its settings, and at most [`MAX_COMMANDS`](cs_crontab::MAX_COMMANDS) commands,
 /// by line.
-#[derive(Debug, Drop)]
+#[derive(Drop)]
 pub struct SystemTable {
     variables: Sequence<Setting>,
     commands: Sequence<SystemLine>,

@@ -7,7 +7,7 @@ use std::alloc::{AllocError, Global};
 use std::marker::Model;
 
 /// A setting of the environment.
-#[derive(Debug, Drop)]
+#[derive(Drop)]
 pub struct Setting {
     line: u32,
     key: Bytes,

@@ -8,7 +8,7 @@ use std::fmt::Display;
 use thiserror::Error;
 
 /// What is wrong with a line, and where.
-#[derive(Clone, Copy, Debug, PartialEq, Eq)]
+#[derive(Clone, Copy, PartialEq, Eq)]
 pub struct Wrong<F> {
     /// What is wrong.
     pub fault: F,

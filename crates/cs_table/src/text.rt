@@ -1,5 +1,5 @@
 //! Lines, words and numbers of crontabs and anacrontabs.
-ghost use Rattle.std.specs.Prelude.{◌≡◌, ◌==◌, ◌≢◌, [], ◌∷◌, ◌<◌, ◌+◌, length, min, IfSome, IfNone};
+ghost use Rattle.std.specs.Prelude.{◌≡◌, ◌==◌, ◌≢◌, [], ◌∷◌, ◌<◌, ◌+◌, length, min};
 ghost use Rattle.std.specs.List.{list_all, list_any};
 ghost use Rattle.cs_table.specs.Text.{is_blank, is_solid, is_digit, is_one_of, front, after, lines_of, decimal};
 ghost use Rattle.cs_table.specs.SettingReading.{is_other, trimmed};

@@ -1,7 +1,5 @@
 ghost use Rattle.std.specs.Prelude.{ℕ, ◌≡◌, ◌≤◌, ◌<◌, ◌+◌, ◌*◌, ◌/◌, Bool, true, List, map, Contains, ◌↔◌, None};
-ghost use Rattle.std.specs.List.{range_with_len};
-ghost use Rattle.cs_civil.specs.Calendar.{Kind, kind};
-ghost use Rattle.cs_history.specs.declared.event.Event.{Event};
+ghost use Rattle.cs_civil.specs.Calendar.{Kind};
 ghost use Rattle.cs_history.specs.declared.run.Run.{Run};
 ghost use Rattle.cs_history.specs.Plan.{Plan, IsPlan, IsReached};
 ghost use Rattle.cs_history.specs.History.{History, IsLegal, IsInTime, IsSafe};

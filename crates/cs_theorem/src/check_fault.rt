@@ -5,7 +5,7 @@ use cs_windows::Window;
 /// Why a certificate is refused: the first rule that fails, and its first place. A minute `at` is
 /// on the first day from 1970-01-03 on that ends such a stretch of days, or on the day before if
 /// the rule is one of that day.
-#[derive(Debug, Drop)]
+#[derive(Drop)]
 pub enum CheckFault {
     /// The class of this kind of day doesn't have the due minutes of the kind.
     ClassNotDue(DayKind),

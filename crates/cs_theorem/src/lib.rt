@@ -1,5 +1,4 @@
 //! Why an accepted plan is safe: the theorems over every history, apart from any code.
-//! When a certificate is accepted, and why such a plan is calm at every minute and always safe.
 #![tactic(auto)]
 
 mod accepted_plans;

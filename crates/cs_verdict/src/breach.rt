@@ -9,7 +9,7 @@ use cs_plan::Plan;
 use std::alloc::{AllocError, Global};
 
 /// What runs when a script first breaks a plan.
-#[derive(Debug, Drop)]
+#[derive(Drop)]
 pub struct Breach {
     /// The civil minute in which it does.
     pub minute: Minute,

@@ -61,14 +61,6 @@ pub fn no_reach(alloc: Global, plan: &Plan) -> Result<Vec<Bytes>, AllocError> {
     Ok(story)
 }
 
-/// Whether the command is due at the minute.
-fn is_due(line: &Line, at: Minute) -> bool {
-    match line.when() {
-        When::At(schedule) => schedule.is_due_on(kind_of(at.day()), at.minute_of_day()),
-        When::Reboot => false,
-    }
-}
-
 /// Adds the note on a job that takes the lock.
 fn push_taker_note(
     alloc: Global,
@@ -82,8 +74,10 @@ fn push_taker_note(
     push_number(alloc, text, u128::from(line.number()))?;
     text.extend_from_slice(b" takes the lock: ")?;
     push_terms(alloc, text, plan, job)?;
-    if is_due(line, at) {
-        text.extend_from_slice(b", due then")?;
+    if let When::At(schedule) = line.when() {
+        if schedule.is_due_on(kind_of(at.day()), at.minute_of_day()) {
+            text.extend_from_slice(b", due then")?;
+        }
     }
     text.extend_from_slice(b"\n")
 }

@@ -13,19 +13,12 @@ use std::alloc::{AllocError, Global};
 /// How many bytes of a command a line shows.
 const WIDTH: usize = 100;
 
-/// A byte of a line: a blank in place of a newline.
-fn on_one_line(byte: u8) -> u8
-    ensures { result ≡ on_one_line byte }
-{
-    if byte == b'\n' { b' ' } else { byte }
-}
-
-/// Adds words on one line.
+/// Adds words on one line: with a blank in place of a newline.
 fn push_on_one_line(text: &mut Vec<u8>, words: &[u8]) -> Result<(), AllocError>
     ensures { OnOk result (text.new.items ≡ text.old.items ++ map on_one_line words.now) }
 {
     for byte in words {
-        text.push(on_one_line(*byte))?;
+        text.push(if *byte == b'\n' { b' ' } else { *byte })?;
     }
     Ok(())
 }
@@ -253,15 +246,6 @@ pub fn push_broken(
     push_comments(text, story.as_slice())
 }
 
-fn has_outage(script: &Script) -> bool {
-    for event in script.events.as_slice() {
-        if let Event::Down = event {
-            return true;
-        }
-    }
-    false
-}
-
 /// The story of a breach, the words of a comment each: the runs that take part, each with its
 /// command, what is broken, and why the script has outages. The only error is out of memory.
 pub fn story(
@@ -278,7 +262,11 @@ pub fn story(
         }
     }
     add_broken(alloc, &mut story, plan, shown, breach.minute)?;
-    if has_outage(script) {
+    let mut has_outage = false;
+    for event in script.events.as_slice() {
+        has_outage = has_outage || matches!(event, Event::Down);
+    }
+    if has_outage {
         let words = b"an outage, from down to up, leaves out minutes that the breach does not \
             need; what runs goes on";
         story.push(Bytes::from_slice(alloc, words)?)?;

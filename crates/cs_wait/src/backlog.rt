@@ -10,7 +10,7 @@ use std::marker::Model;
 pub const MAX_BACKLOG: u32 = 1_000_000;
 
 /// A part of a backlog: from `minute` on, the bound is `value`, less one for each minute since.
-#[derive(Clone, Copy, Debug, PartialEq, Eq)]
+#[derive(Clone, Copy, PartialEq, Eq)]
 pub struct Piece {
     /// The minute of the day, below 1,440.
     pub minute: u16,
@@ -19,7 +19,7 @@ pub struct Piece {
 }
 
 /// A bound for each minute of a day on the minutes of runs that wait for a group's lock or hold it.
-#[derive(Debug, Drop)]
+#[derive(Drop)]
 pub struct Backlog {
     list: Vec<Piece>,
 }
@@ -34,7 +34,7 @@ impl Model for Backlog {
 
 /// The pieces make no backlog: their minutes don't rise strictly below 1,440, or a value is not
 /// from 1 to 1,000,000.
-#[derive(Clone, Copy, Debug, PartialEq, Eq)]
+#[derive(Clone, Copy, PartialEq, Eq)]
 pub struct BadPiece;
 
 impl Backlog {

@@ -5,7 +5,7 @@ use cs_civil::{DayKind, MINUTES_OF_DAY};
 use cs_schedule::{MinuteSet, Schedule};
 
 /// What a job occupies: windows of `reach` minutes, in which its runs may go on.
-#[derive(Clone, Copy, Debug)]
+#[derive(Clone, Copy)]
 pub enum Occupied<'a> {
     /// A cron job's begin at each minute at which the schedule is due (`crontab(5)`).
     Cron { schedule: &'a Schedule, reach: u16 },

@@ -3,7 +3,7 @@ ghost use Rattle.cs_windows.specs.Reach.{reach_of};
 
 /// How long a run of a job that waits for a lock may go on: one due in minute d holds no minute
 /// from d + reach on. A certificate lists a reach for each job that may have to wait for a lock.
-#[derive(Clone, Copy, Debug, PartialEq, Eq)]
+#[derive(Clone, Copy, PartialEq, Eq)]
 pub struct JobReach {
     /// The job's number in its plan, below 320.
     pub job: u16,

@@ -4,7 +4,7 @@ use cs_schedule::{MINUTES_OF_BLOCK, MinuteSet};
 const BLOCK: u32 = MINUTES_OF_BLOCK as u32;
 
 /// A job of which a window may begin `day_back` days before the day looked at, and reach that day.
-#[derive(Debug, Drop)]
+#[derive(Drop)]
 pub(crate) struct Starter {
     pub(crate) job: u16,
     pub(crate) day_back: u8,
@@ -13,7 +13,7 @@ pub(crate) struct Starter {
 }
 
 /// The starts of such a job in a block of minutes: a bit each, the lowest for the first minute.
-#[derive(Clone, Copy, Debug)]
+#[derive(Clone, Copy)]
 pub(crate) struct Near {
     job: u16,
     day_back: u8,

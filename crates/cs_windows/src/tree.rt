@@ -8,7 +8,7 @@ use crate::window::{Window, touches};
 use cs_civil::{MINUTES_OF_DAY, Sequence};
 
 /// The name of a window in a leaf.
-#[derive(Clone, Copy, Debug, PartialEq, Eq, Hash)]
+#[derive(Clone, Copy, PartialEq, Eq, Hash)]
 pub struct Entry {
     /// Its job.
     pub job: u16,
@@ -22,7 +22,7 @@ pub struct Entry {
 ///
 /// A split over `[lo, hi)` has halves over `[lo, at)` and `[at, hi)`. It is inside its range if `lo
 /// < at < hi`. Other splits are possible; each method says what they mean.
-#[derive(Debug, Drop)]
+#[derive(Drop)]
 pub enum MinuteTree {
     /// The windows listed for each minute of the range.
     Leaf(Sequence<Entry>),
@@ -36,7 +36,7 @@ pub enum MinuteTree {
 }
 
 /// A leaf, borrowed, with its range `[lo, hi)` in minutes of the day.
-#[derive(Clone, Copy, Debug)]
+#[derive(Clone, Copy)]
 pub struct LeafAt<'a> {
     /// The first minute of the range.
     pub lo: u16,

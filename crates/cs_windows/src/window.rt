@@ -7,7 +7,7 @@ use cs_civil::MINUTES_OF_DAY;
 /// days before the day looked at. It may hold minutes of several days.
 ///
 /// It takes eight bytes: a table of 256 lines may have a million of them.
-#[derive(Clone, Copy, Debug, PartialEq, Eq, Hash)]
+#[derive(Clone, Copy, PartialEq, Eq, Hash)]
 pub struct Window {
     /// The job's index in the list that the window was made from.
     pub job: u16,

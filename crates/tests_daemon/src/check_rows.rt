@@ -22,6 +22,6 @@ fn is_too_full(error: &CheckError) -> bool {
 
 #[test]
 fn over_the_capacity(rt: HostRuntime) {
-    let error = answer(&rt, rt.alloc(), &TIGHT).expect_err(&rt, "refused");
+    let error = answer(&rt, rt.alloc(), &TIGHT).err().expect(&rt, "refused");
     assert!(rt; is_too_full(&error));
 }

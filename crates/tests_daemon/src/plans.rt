@@ -166,7 +166,7 @@ pub(crate) fn answer(rt: &impl Abort, alloc: Global, texts: &Texts) -> Result<Ch
 
 /// The plan, with its certificate.
 pub(crate) fn checked(rt: &impl Abort, alloc: Global, texts: &Texts) -> Checked {
-    answer(rt, alloc, texts).expect(rt, "accepted")
+    answer(rt, alloc, texts).ok().expect(rt, "accepted")
 }
 
 /// So many minutes behind 2024-01-01 00:00.

@@ -65,7 +65,7 @@ impl<'a> Script<'a> {
 }
 
 /// What stands in the keep that is handed back.
-#[derive(Clone, Copy, Debug, PartialEq, Eq)]
+#[derive(Clone, Copy, PartialEq, Eq)]
 pub(crate) struct InKeep {
     pub(crate) total: u64,
     /// The present minute.

@@ -1,9 +1,9 @@
 //! Stamps over a machine that ends in the middle of a write.
-use crate::folders::{day, is_written, stamp};
 use crate::scratch::{new_folder, put, remove_folder};
 use cs_civil::Day;
-use cs_device::Stamp;
-use std::alloc::Allocator;
+use cs_device::{Stamp, StampStore};
+use cs_machine::StampsFolder;
+use std::alloc::{Allocator, Global};
 use std::cell::Cell;
 use std::fs::{Metadata, OpenFile, OpenOptions};
 use std::io;
@@ -140,10 +140,26 @@ impl<'a, R: Files> Files for Mortal<'a, R> {
     }
 }
 
+/// What a new look at a folder says of its stamp. None where there is no such folder.
+fn stamp<R: Files>(rt: &R, alloc: Global, folder: &str) -> Option<Stamp> {
+    match StampsFolder::open(rt, alloc, folder) {
+        Ok(mut store) => Some(store.read(b"job")),
+        Err(_) => None,
+    }
+}
+
+/// Whether a stamp is told as written.
+fn is_written<R: Files>(rt: &R, alloc: Global, folder: &str, day: Day) -> bool {
+    match StampsFolder::open(rt, alloc, folder) {
+        Ok(mut store) => store.write(b"job", day),
+        Err(_) => false,
+    }
+}
+
 /// Whether a write is told as done on a machine with this life.
 fn write_in<'x, R: Files + AllocGlobal>(rt: &'x R, life: &'x Life, folder: &str, day: Day) -> bool {
     let mortal = Mortal { rt, life };
-    is_written(&mortal, rt.alloc(), folder, b"job", day)
+    is_written(&mortal, rt.alloc(), folder, day)
 }
 
 /// The same on a machine that ends after so many calls, and which calls it made.
@@ -175,20 +191,20 @@ const ROWS: [(u64, (bool, u64), bool); 8] = [
 fn ends_in_a_write(rt: HostRuntime) {
     let folder = new_folder(&rt, "crashes", id(rt.process()));
     let folder = folder.as_str();
-    let old = day(&rt, 19_753);
-    let new = day(&rt, 19_754);
+    let old = Day::new(19_753).expect(&rt, "a day");
+    let new = Day::new(19_754).expect(&rt, "a day");
     for (calls, written, is_new) in ROWS {
         let stays = if is_new { new } else { old };
-        assert!(rt; is_written(&rt, rt.alloc(), folder, b"job", old));
+        assert!(rt; is_written(&rt, rt.alloc(), folder, old));
         assert!(rt; write_until(&rt, folder, new, calls) == written, "{calls}");
         assert!(rt;
-            stamp(&rt, rt.alloc(), folder, b"job") == Some(Stamp::On(stays)),
+            stamp(&rt, rt.alloc(), folder) == Some(Stamp::On(stays)),
             "{calls}"
         );
     }
     put(&rt, folder, "job new", b"2024013");
-    assert!(rt; stamp(&rt, rt.alloc(), folder, b"job") == Some(Stamp::On(new)));
-    assert!(rt; is_written(&rt, rt.alloc(), folder, b"job", old));
-    assert!(rt; stamp(&rt, rt.alloc(), folder, b"job") == Some(Stamp::On(old)));
+    assert!(rt; stamp(&rt, rt.alloc(), folder) == Some(Stamp::On(new)));
+    assert!(rt; is_written(&rt, rt.alloc(), folder, old));
+    assert!(rt; stamp(&rt, rt.alloc(), folder) == Some(Stamp::On(old)));
     remove_folder(&rt, folder);
 }

@@ -6,12 +6,6 @@ mod clocks;
 #[cfg(test)]
 mod crashes;
 #[cfg(test)]
-mod folders;
-#[cfg(test)]
-mod logs;
-#[cfg(test)]
-mod outputs;
-#[cfg(test)]
 mod reads;
 #[cfg(test)]
 mod scratch;

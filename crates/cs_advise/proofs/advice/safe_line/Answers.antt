@@ -1,6 +1,5 @@
 use Rattle.std.proofs.Common.{List, ℕ, subst}
-use Rattle.cs_judge.specs.Called.{reach_in}
-use Rattle.cs_advise.specs.Told.{IsLine}
+use Rattle.cs_advise.specs.Advice.{IsLine}
 use Rattle.cs_advise.proofs.Advised.{if_safe}
 use Rattle.cs_advise.proofs.advice.safe_line.Goals as goal
 
@@ -14,4 +13,4 @@ returns g c =
     let is = rw c.in-Some.is at c.in_ok-changed.ensures in
     let known = rw c.in-Some-2.is at c.in_ok-checked.ensures in
     if_safe c.args.source.now plan change made.pasted.items made.plan checked line is known
-    (subst (λ (pasted : List ℕ). IsLine plan (reach_in checked) change pasted line) c.as_slice-pasted.ensures.value c.in_ok-change_line.ensures)
+    (subst (λ (pasted : List ℕ). IsLine change pasted line) c.as_slice-pasted.ensures.value c.in_ok-change_line.ensures)

@@ -1,5 +1,5 @@
 use Rattle.std.proofs.Common.{◌≡◌, ◌++◌, map, take}
-use Rattle.cs_advise.specs.Told.{seen}
+use Rattle.cs_advise.specs.Advice.{seen}
 use Rattle.cs_advise.proofs.told.push_seen.Given as goal
 
 abbrev pub invariant-loop-byte : goal.invariant-loop-byte

@@ -1,8 +1,7 @@
 use Rattle.std.proofs.Common.{rules, ◌≡◌, ◌⊎◌, ℕ, true, inl, inr, refl}
 use Rattle.cs_files.specs.Response.{status_of}
 use Rattle.cs_files.specs.Ending.{Ends, RunsOut, Sink, sink}
-use Rattle.cs_args.specs.Asked.{asked_stop}
-use Rattle.cs_args.specs.CommandLine.{AskedStop}
+use Rattle.cs_args.specs.Asked.{asked_stop, AskedStop}
 use Rattle.cs_ask.specs.Asking.{MayTell, Refuses}
 use Rattle.cs_ask.specs.Stopping.{Stops, waiting_text}
 use Rattle.cs_ask.specs.declared.asking.Refusal.{Refusal}

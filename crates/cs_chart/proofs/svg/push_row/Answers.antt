@@ -4,4 +4,4 @@ use Rattle.cs_chart.proofs.svg.push_row.Goals as goal
 
 pub returns : goal.returns
 unfolding row_text
-returns c = rw (c.in_ok-push_str.ensures.bytes, c.in_ok-push_path.ensures, c.in_ok-write.ensures.bytes, c.in_ok-push_name.ensures) (simp append_assoc refl)
+returns c = rw (c.in_ok-push_str.ensures.bytes, c.in_ok-push_path.ensures, c.in_ok-write.ensures.bytes) (simp append_assoc refl)

@@ -37,8 +37,7 @@ returns-clause-held g c = λ fresh.
     let whole = c.tables_at.ensures.whole in (
       c.in_ok-table.ensures.held fresh,
       λ short few.
-          let later = c.in_ok-table.ensures.fresh short few fresh in
-          (rw whole at (c.in_ok-declarations.ensures.held later), rw (c.declarations_at.ensures.whole ∙ whole) at (c.in_ok-changes.ensures.held (c.in_ok-declarations.ensures.fresh later))),
+          rw whole at (c.in_ok-declarations.ensures.held (c.in_ok-table.ensures.fresh short few fresh)),
     )
 
 pub returns-in_err-table-clause-told : goal.returns-in_err-table-clause-told

@@ -11,7 +11,7 @@ pub returns-in-Err-clause-value : goal.returns-in-Err-clause-value
 returns-in-Err-clause-value g c = λ fresh only except.
     let fault = c.in-Err.fault in
     let r = c.in_ok-response-in-Err.field-0 in
-    unread_answer (asked_lint c.args.request.now) c.args.now.nanosecond (g.I.Inputs.whole c.args.inputs.now) (g.I.Inputs.failed c.args.inputs.now) (g.I.Inputs.failed c.files_at.new.inputs) fault r (c.in-Err.ensures.told fresh)
+    unread_answer (asked_lint c.args.request.now) (g.I.Inputs.whole c.args.inputs.now) (g.I.Inputs.failed c.args.inputs.now) (g.I.Inputs.failed c.files_at.new.inputs) fault r (c.in-Err.ensures.told fresh)
     (subst (λ v. option_map (ends v) (trouble fault) ≡ Some r) c.as_slice.ensures c.in_ok-response-in-Err.ensures)
 
 pub returns-clause-value : goal.returns-clause-value
@@ -28,9 +28,9 @@ returns-clause-value g c = λ fresh only except.
     } in
     inl (
       c.in-Ok.ensures.works,
-      (err, (verdict, status, judged (asked_lint c.args.request.now) c.args.now.nanosecond files verdict _ _ _ _ held judges)),
+      (err, (verdict, status, judged (asked_lint c.args.request.now) files verdict _ _ _ held judges)),
       c.in_ok-show.ensures.faults,
-      told_odd a c.args.now.nanosecond files _ _ _ _ wanted verdict c.in_ok-show.field-0 held asked status judges c.in_ok-show.ensures.clean c.in_ok-show.ensures.planned,
+      told_odd a files _ _ _ wanted verdict c.in_ok-show.field-0 held asked status judges c.in_ok-show.ensures.clean,
     )
 
 pub returns-in-Err-clause-status : goal.returns-in-Err-clause-status

@@ -1,8 +1,7 @@
 use Rattle.std.proofs.Common.{◌∙◌, sym}
 use Rattle.cs_lint.specs.Odd.{is_odd_table}
 use Rattle.cs_lint.specs.Refused.{Judges}
-use Rattle.cs_lint.specs.Answer.{HasCleanPlan}
-use Rattle.cs_lint.proofs.AnswerLemmas.{at_least_odd, bytes_lent, not_found, plan_clean, same_texts, still_clean}
+use Rattle.cs_lint.proofs.AnswerLemmas.{at_least_odd, bytes_lent, not_found, same_texts, still_clean}
 use Rattle.cs_lint.proofs.answer.look.Goals as goal
 
 pub returns-clause-value : goal.returns-clause-value
@@ -21,12 +20,4 @@ pub returns-clause-clean : goal.returns-clause-clean
 returns-clause-clean c = λ clean.
     let report = c.in_ok-report.report.verdict in
     let before = still_clean report c.in_ok-found.found c.in_ok-found.ensures.value (still_clean c.in_ok-found.found c.in_ok-verdict.verdict c.in_ok-verdict.ensures.value clean) in
-    (not_found (is_odd_table c.args.wanted.now _) report (rw c.file_of-table.ensures at c.in_ok-report.ensures.odd) before, rw (c.as_slice-changes.ensures.value, c.file_of-table.ensures) at (c.in_ok-verdict.ensures.clock clean))
-
-pub returns-clause-planned : goal.returns-clause-planned
-returns-clause-planned c = λ clean.
-    let report = c.in_ok-report.report.verdict in
-    let before = still_clean report c.in_ok-found.found c.in_ok-found.ensures.value (still_clean c.in_ok-found.found c.in_ok-verdict.verdict c.in_ok-verdict.ensures.value clean) in
-    let jobs = bytes_lent c.as_ref.result c.some_file-jobs.result (λ file. file.bytes.now) _ c.as_ref.ensures.value c.some_file-jobs.ensures in
-    let declarations = bytes_lent c.as_ref-2.result c.some_file-declarations.result (λ file. file.bytes.now) _ c.as_ref-2.ensures.value c.some_file-declarations.ensures in
-    same_texts (HasCleanPlan c.args.wanted.now) _ _ _ _ _ _ c.file_of-table.ensures jobs declarations (plan_clean c.args.wanted.now report _ _ _ c.in_ok-report.ensures.planned before)
+    not_found (is_odd_table c.args.wanted.now _) report (rw c.file_of-table.ensures at c.in_ok-report.ensures.odd) before

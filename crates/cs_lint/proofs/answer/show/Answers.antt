@@ -15,7 +15,3 @@ returns-clause-faults c = λ only.
 pub returns-clause-clean : goal.returns-clause-clean
 returns-clause-clean c = λ zero.
     c.in_ok-report.ensures.clean (none_found c.in_ok-report.report.verdict _ (ap (λ (e : Ending). e.status) c.told.ensures ∙ c.status_for-status.ensures) zero)
-
-pub returns-clause-planned : goal.returns-clause-planned
-returns-clause-planned c = λ zero.
-    c.in_ok-report.ensures.planned (none_found c.in_ok-report.report.verdict _ (ap (λ (e : Ending). e.status) c.told.ensures ∙ c.status_for-status.ensures) zero)

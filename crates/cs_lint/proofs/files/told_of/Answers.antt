@@ -1,12 +1,11 @@
 use Rattle.std.proofs.Common.{Bor}
 use Rattle.cs_diagnostics.specs.declared.render.File.{File}
 use Rattle.cs_lint.specs.declared.table.Kind.TheVariants.{Crontab}
-use Rattle.cs_lint.specs.Startup.{is_odd_some}
 use Rattle.cs_lint.specs.Odd.{is_odd_table}
 use Rattle.cs_diagnostics.specs.Told.{is_told}
 use Rattle.cs_lint.proofs.EachLemmas.{tells_each, tells_lines}
 use Rattle.cs_lint.proofs.FirstLemmas.{or_left, or_right, tells_first}
-use Rattle.cs_lint.proofs.WantedLemmas.{no_odd_plan, no_odd_table, not_only}
+use Rattle.cs_lint.proofs.WantedLemmas.{no_odd_table, not_only}
 use Rattle.cs_lint.proofs.files.told_of.Goals as goal
 
 pub returns-clause-told : goal.returns-clause-told
@@ -29,13 +28,6 @@ returns-clause-odd c = λ is.
     let wanted = c.args.wanted.now in
     let table = c.args.table.now.bytes.now in
     c.is_odd.ensures.odd (not_only wanted.faults_only (is_odd_table wanted table) (no_odd_table wanted table) is) (c.in_ok-found.ensures.odd is)
-
-pub returns-clause-planned : goal.returns-clause-planned
-returns-clause-planned c = λ is.
-    let wanted = c.args.wanted.now in
-    let table = c.args.table.now.bytes.now in
-    let plan = c.args.looked.now.plan in
-    c.is_odd.ensures.odd (not_only wanted.faults_only (is_odd_some wanted table plan) (no_odd_plan wanted table plan) is) (c.in_ok-found.ensures.planned is)
 
 pub returns-clause-faults : goal.returns-clause-faults
 returns-clause-faults c = c.is_odd.ensures.faults

@@ -1,17 +1,9 @@
-use Rattle.std.proofs.Common.{◌≡◌, ◌≤◌, ◌||◌, length}
-use Rattle.std.specs.List.{list_any}
-use Rattle.cs_table.specs.Text.{lines_of}
-use Rattle.cs_table.specs.declared.limits.TheConstants.{MAX_TABLE}
-use Rattle.cs_lint.specs.Looks.{is_odd_by}
+use Rattle.std.proofs.Common.{◌≡◌, length, true}
 use Rattle.cs_lint.proofs.looks.find_in_lines.Given as goal
 
--- what was told, or will be of the lines that are left
+-- what was told is told still
 abbrev pub invariant-loop-rest : goal.invariant-loop-rest
-invariant-loop-rest l = record {
-  short : length l.table ≤ MAX_TABLE;
-  told : (l.findings.has_oddities || list_any (is_odd_by l.fn.wanted l.fn.look) (lines_of l.rest))
-      ≡ (l.initial.findings.has_oddities || list_any (is_odd_by l.fn.wanted l.fn.look) (lines_of l.table));
-}
+invariant-loop-rest l = l.initial.findings.has_oddities ≡ true → l.findings.has_oddities ≡ true
 
 abbrev pub decreases-loop-rest : goal.decreases-loop-rest
 decreases-loop-rest l = length l.rest

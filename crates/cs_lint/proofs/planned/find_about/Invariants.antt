@@ -1,12 +1,6 @@
-use Rattle.std.proofs.Common.{◌≡◌, ◌||◌, take}
-use Rattle.std.specs.List.{list_any}
-use Rattle.cs_lint.specs.Planned.{planned_name}
-use Rattle.cs_lint.specs.Wanted.{is_wanted}
+use Rattle.std.proofs.Common.{◌≡◌, true}
 use Rattle.cs_lint.proofs.planned.find_about.Given as goal
 
--- something odd was told once one oddity was
+-- what was told is told still
 abbrev pub invariant-loop-oddity : goal.invariant-loop-oddity
-invariant-loop-oddity l =
-    l.findings.has_oddities
-    ≡ (l.initial.findings.has_oddities
-    || list_any (λ oddity. is_wanted l.fn.wanted (planned_name oddity)) (take l.oddity-index l.oddity-items))
+invariant-loop-oddity l = l.initial.findings.has_oddities ≡ true → l.findings.has_oddities ≡ true

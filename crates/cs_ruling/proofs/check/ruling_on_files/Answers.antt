@@ -11,8 +11,7 @@ use Rattle.cs_anacrontab.specs.Anacrontab.{Table as JobTable}
 use Rattle.cs_plan.specs.Plan.{Declared}
 use Rattle.cs_place.specs.Places.{places_of}
 use Rattle.cs_place.specs.declared.places.Place.{Place}
-use Rattle.cs_args.specs.Asked.{asked_check}
-use Rattle.cs_args.specs.CommandLine.{AskedCheck}
+use Rattle.cs_args.specs.Asked.{asked_check, AskedCheck}
 use Rattle.cs_files.specs.Reads.{AndThen, GivesSome, ReadsFitting}
 use Rattle.cs_files.specs.Response.{Ending}
 use Rattle.cs_files.specs.Trouble.{CameTo, Trouble}

@@ -1,0 +1,221 @@
+//! The objects of declarations: of which kind each is, and where it stands.
+use crate::wanted::Wanted;
+use cs_diagnostics::{Done, Findings, Object, Span, Words, parts, shown};
+use cs_plan::DeclFault;
+use indexmap::{IndexMap, IndexSet};
+use serde_json::Value;
+use std::alloc::{AllocError, Global};
+use std::fmt::Display;
+
+/// A kind of object of declarations: the whole of them, or what stands in a member of it.
+#[derive(Clone, Copy, PartialEq, Eq)]
+pub(crate) enum Kind {
+    Whole,
+    Default,
+    Group,
+    Cron,
+    /// A part of an entry of `cron`, which has the place of that entry.
+    Part,
+    Anacron,
+    LeftOut,
+}
+
+/// Of each kind the member in which it stands, what its place is called, what it is called, and the
+/// members that it may have.
+const TEXTS: [[&str; 4]; 7] = [
+    [
+        "",
+        "",
+        "the declarations",
+        "anacron capacity cron default groups hours left_out note offset pass",
+    ],
+    ["default", "", "\"default\"", "max note weight"],
+    [
+        "groups",
+        "group",
+        "this entry of \"groups\"",
+        "exclusive name note",
+    ],
+    [
+        "cron",
+        "cron",
+        "this entry of \"cron\"",
+        "command group guess line max mode note parts weight when",
+    ],
+    ["parts", "cron", "this entry of \"parts\"", "max name note"],
+    [
+        "anacron",
+        "anacron",
+        "this entry of \"anacron\"",
+        "group guess id max note weight",
+    ],
+    [
+        "left_out",
+        "left_out",
+        "this entry of \"left_out\"",
+        "command line note when",
+    ],
+];
+
+impl Kind {
+    /// The member of the whole in which it stands.
+    pub(crate) fn list(self) -> &'static str {
+        TEXTS[self as usize][0]
+    }
+
+    /// What it is called, and the members that it may have.
+    pub(crate) fn called(self) -> (&'static str, &'static str) {
+        (TEXTS[self as usize][2], TEXTS[self as usize][3])
+    }
+}
+
+/// An object of declarations, or what stands in place of one.
+#[derive(Drop)]
+pub(crate) struct Entry<'v> {
+    pub(crate) kind: Kind,
+    /// Its place in its list, counted from 0.
+    pub(crate) index: usize,
+    pub(crate) place: Span,
+    pub(crate) is_object: bool,
+    /// Its members; none where it's no object.
+    pub(crate) object: Object<'v>,
+}
+
+impl<'v> Entry<'v> {
+    /// That of a value of a text, which stands there.
+    pub(crate) fn new(
+        alloc: Global,
+        bytes: &[u8],
+        (kind, index): (Kind, usize),
+        part: (&'v Value, Span),
+    ) -> Result<Entry<'v>, AllocError> {
+        Ok(Entry {
+            kind,
+            index,
+            place: part.1,
+            is_object: part.0.is_object(),
+            object: Object::new(alloc, bytes, part)?,
+        })
+    }
+
+    /// The text that it has in a member, if it's of that kind, and where it stands.
+    pub(crate) fn text(&self, kind: Kind, member: &str) -> Option<(&'v str, Span)> {
+        if self.kind == kind {
+            self.object.text(member)
+        } else {
+            None
+        }
+    }
+
+    /// Adds those of the list of that kind that it has; parts have its place in its own list.
+    pub(crate) fn push_list(
+        &self,
+        alloc: Global,
+        bytes: &[u8],
+        kind: Kind,
+        entries: &mut Vec<Entry<'v>>,
+    ) -> Done {
+        let Some((value, span)) = self.object.member(kind.list()) else {
+            return Ok(());
+        };
+        let Some(items) = value.as_array() else {
+            return Ok(());
+        };
+        let places = parts(alloc, bytes, span)?;
+        for (index, (part, value)) in places.iter().zip(items.iter()).enumerate() {
+            let index = if kind == Kind::Part {
+                self.index
+            } else {
+                index
+            };
+            let entry = Entry::new(alloc, bytes, (kind, index), (value, part.value))?;
+            entries.push(entry)?;
+        }
+        Ok(())
+    }
+
+    /// A fault of it, with its place as the readers of declarations tell it.
+    pub(crate) fn named(&self, alloc: Global, fault: DeclFault) -> Words {
+        let list = TEXTS[self.kind as usize][1];
+        if list.is_empty() || fault == DeclFault::BadShape {
+            return format!(in alloc; "{fault}");
+        }
+        format!(in alloc; "{fault} at {list} {}", self.index.saturating_add(1))
+    }
+}
+
+/// What is found in declarations, which are those bytes.
+#[derive(Drop)]
+pub(crate) struct Tell<'w> {
+    pub(crate) findings: Findings,
+    pub(crate) wanted: Wanted<'w>,
+    pub(crate) bytes: &'w [u8],
+}
+
+impl Tell<'_> {
+    /// Adds a fault of an entry.
+    pub(crate) fn fault(
+        &mut self,
+        entry: &Entry<'_>,
+        span: Span,
+        fault: DeclFault,
+        why: impl Display + Drop,
+    ) -> Done {
+        let fault = entry.named(self.findings.alloc, fault)?;
+        self.findings.fault(span, format_args!("{fault}: {why}"))
+    }
+
+    /// Adds something odd of that name, where it's told.
+    pub(crate) fn odd(&mut self, span: Span, name: &str, why: impl Display + Drop) -> Done {
+        self.wanted.odd(&mut self.findings, span, name, why)
+    }
+
+    /// Adds that something of an entry has an entry before it.
+    pub(crate) fn twice(
+        &mut self,
+        entry: &Entry<'_>,
+        span: Span,
+        what: impl Display + Drop,
+    ) -> Done {
+        let fault = match entry.kind {
+            Kind::Part => DeclFault::BadParts,
+            _ => DeclFault::TwiceDeclared,
+        };
+        let why = "has an entry already: remove one of the two";
+        self.fault(entry, span, fault, format_args!("{what} {why}"))
+    }
+
+    /// Adds which entries of a kind have a text in a member that one before them has.
+    pub(crate) fn find_twice(
+        &mut self,
+        entries: &[Entry<'_>],
+        (kind, member, called): (Kind, &str, &str),
+    ) -> Done {
+        let mut seen = IndexSet::new(self.findings.alloc);
+        for entry in entries {
+            if let Some((text, span)) = entry.text(kind, member) {
+                if !seen.insert(text)? {
+                    let text = shown(self.findings.alloc, span.bytes(self.bytes))?;
+                    self.twice(entry, span, format_args!("the {called} {text}"))?;
+                }
+            }
+        }
+        Ok(())
+    }
+}
+
+/// The texts that entries of a kind have in a member, each with the place where it last stands.
+pub(crate) fn texts_in<'v>(
+    alloc: Global,
+    entries: &[Entry<'v>],
+    kind: Kind,
+    member: &str,
+) -> Result<IndexMap<&'v str, Span>, AllocError> {
+    let mut texts = IndexMap::new(alloc);
+    for entry in entries {
+        if let Some((text, span)) = entry.text(kind, member) {
+            texts.insert(text, span)?;
+        }
+    }
+    Ok(texts)
+}

@@ -77,12 +77,12 @@ def words_of(doc, has_names=True, **options):
 
 
 def chosen(tests, names):
-    """Returns the functions of these names; all where none is given."""
-    by_name = {it.__name__: it for it in tests}
+    """Returns the tests of these names, by which they stand or which the functions have; or all."""
+    by_name = tests if isinstance(tests, dict) else {it.__name__: it for it in tests}
     for it in names:
         if it not in by_name:
             raise BadUse(f"there is no test {it}: it is one of {', '.join(by_name)}")
-    return [by_name[it] for it in names] or tests
+    return [by_name[it] for it in names or by_name]
 
 
 @contextmanager
@@ -103,10 +103,7 @@ def suffix_of(word):
 
 @cache
 def itself(program, word):
-    """Returns the program that a command, as of an installation, becomes for a call's first word.
-
-    What isn't such a command is returned as it is.
-    """
+    """Returns the program that a command becomes for a call's first word, or what is no command."""
     if program == PROGRAM:
         name = f"cronsafe{suffix_of(word).replace('-', '_')}"
         return TOP / f"crates/{name}/out/{name}"
@@ -135,6 +132,13 @@ def called(program, words, folder, stdin=b"", seconds=10, **more):
         ran.communicate()
         raise Fault(f"it ran for more than {seconds} seconds") from None
     return ran.returncode, out, err
+
+
+def answered(program, files, *words, **more):
+    """Returns the answer to a call over these files, of which an anacrontab is named in it too."""
+    words += ("--anacrontab", "anacrontab") if b"anacrontab" in files else ()
+    with folder_with(files) as folder:
+        return called(program, words, folder, **more)
 
 
 def compiled(folder, name="failing"):

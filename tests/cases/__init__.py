@@ -1,7 +1,9 @@
-"""Worked examples: calls of the program with the answers that are wanted, one file each.
+"""Worked examples: calls of the program with the answers that are wanted.
 
-A case is a file tests/cases/SUBCOMMAND/NAME.case. Those of the subcommand `run` are in 'running',
-and calls without a subcommand in 'program'. It has these sections, each once and in any order:
+The cases of a subcommand are in a folder of its name; those of `run` are in 'running', and calls
+without a subcommand in 'program'. A file TOPIC.cases has many, each below a line '=== NAME'; a long
+case may have a file for itself, NAME.case, without that line. The name of the case is then
+SUBCOMMAND/NAME. It has these sections, each once and in any order:
 
   --- call        the call as one line of a shell, as 'cronsafe judge crontab evening.json'
   --- file NAME   a file that a word of the calls names
@@ -15,19 +17,21 @@ and calls without a subcommand in 'program'. It has these sections, each once an
   --- then status N   the exit status of the second call, if that isn't 0
   --- then stdout     the whole standard output of the second call, as that of the first one
 
-The text of a section is all lines up to the next one that begins with '--- '. A text that ends
-without a newline says so on its head: '--- file NAME (no newline)'. A text with a line that begins
-with '--- ', with control characters or with bytes that aren't UTF-8 is '(escaped)', or '(escaped,
-no newline)': \\xNN is the byte of these two hexadecimal digits, and \\\\ a backslash.
+The text of a section is all lines up to the next one that begins with '--- ' or '=== '. A text
+that ends without a newline says so on its head: '--- file NAME (no newline)'. A text with a line
+that begins so, with control characters or with bytes that aren't UTF-8 is '(escaped)', or
+'(escaped, no newline)': \\xNN is the byte of these two hexadecimal digits, and \\\\ a backslash.
 """
 import re
 import shlex
 from collections import namedtuple
+from functools import cache
 from pathlib import Path
 
 from harness import BadUse
 
 FOLDER = Path(__file__).resolve().parent
+TITLE = re.compile(rb"=== ([a-z0-9_]+)")
 NAME = r"[^\s()/](?:[^()/]*[^\s()/])?"
 HEAD = re.compile(
     rf"--- (call|stdin|stdout|stderr|then(?: stdout)?|(?:then )?status (\d{{1,3}})|file ({NAME}))"
@@ -35,46 +39,66 @@ HEAD = re.compile(
 )
 ESCAPE = re.compile(rb"\\(x[0-9a-f]{2}|\\|)")
 ANY = {rb"YYYY\-MM\-DD": rb"\d{4}-\d\d-\d\d", b"HH:": rb"\d\d:", b":MM": rb":\d\d"}
-# Words, names of files and texts are bytes; the words leave out `cronsafe`.
+# The lines of a case below that number of a file.
+Part = namedtuple("Part", "name file above lines")
+# Words, names of files and texts are bytes; the words leave out `cronsafe`; `text` is all of it.
 Case = namedtuple(
-    "Case", "name words then then_status then_stdout stdin status stdout stderr files"
+    "Case", "name text words then then_status then_stdout stdin status stdout stderr files"
 )
 
 
-def path_of(name):
-    return FOLDER / f"{name}.case"
-
-
 def cases_of(names=()):
-    """Returns the cases of these names, which may be subcommands; all cases where none is given.
+    """Returns the cases of these names, which may be subcommands or files; all without a name.
 
     A BadUse tells all that is wrong with them, a line for each fault.
     """
+    folders = sorted(it.name for it in FOLDER.iterdir() if it.is_dir() and it.name != "__pycache__")
     cases, wrong = [], []
-    for path in paths_of(names):
-        name = str(path.relative_to(FOLDER).with_suffix(""))
-        try:
-            cases.append(Reader(name, path.read_bytes()).case())
-        except BadUse as error:
-            wrong.append(str(error))
+    for name in names or folders:
+        name = name.removeprefix("tests/").removeprefix("cases/").removesuffix(".case").rstrip("/")
+        folder = name.partition("/")[0]
+        parts = parts_in(folder) if folder in folders else []
+        parts = [it for it in parts if name in (folder, it.name, it.file)]
+        if not parts:
+            raise BadUse(f"there is no case {name}")
+        for it in parts:
+            try:
+                cases.append(Reader(it).case())
+            except BadUse as error:
+                wrong.append(str(error))
     if wrong:
         raise BadUse("\n".join(wrong))
     return cases
 
 
-def paths_of(names):
-    found, folders = [], {it.name for it in FOLDER.iterdir() if it.is_dir()} - {"__pycache__"}
-    for name in names or sorted(folders):
-        name = name.removeprefix("tests/").removeprefix("cases/").removesuffix(".case").rstrip("/")
-        if name not in folders and not path_of(name).is_file():
-            raise BadUse(f"there is no case {name}")
-        found += sorted((FOLDER / name).iterdir()) if name in folders else [path_of(name)]
-    for path in found:
-        if path.suffix != ".case" or not path.is_file():
-            raise BadUse(f"{path.relative_to(FOLDER)} is no case")
-    if not found:
-        raise BadUse("there is no case")
-    return found
+@cache
+def parts_in(folder):
+    """Returns the parts of the files in a folder, in the order of their names."""
+    parts = {}
+    for path in sorted((FOLDER / folder).iterdir()):
+        for it in parts_of(path, f"{folder}/{path.name}"):
+            if it.name in parts:
+                raise BadUse(f"{it.file}: {it.name} is also in {parts[it.name].file}")
+            parts[it.name] = it
+    return sorted(parts.values())
+
+
+def parts_of(path, file):
+    """Yields the parts of a file, one for each case."""
+    if path.suffix not in (".case", ".cases") or not path.is_file():
+        raise BadUse(f"{file} is no case")
+    *lines, last = path.read_bytes().split(b"\n")
+    if last:
+        raise BadUse(f"{file}, line {len(lines) + 1}: the last line has no newline")
+    if path.suffix == ".case":
+        yield Part(file.removesuffix(".case"), file, 0, lines)
+        return
+    heads = [number for number, line in enumerate(lines, 1) if TITLE.fullmatch(line)]
+    if heads[:1] != [1]:
+        raise BadUse(f"{file}, line 1: cases begin with a line '=== NAME'")
+    for head, end in zip(heads, [*heads[1:], len(lines) + 1]):
+        name = f"{file.partition('/')[0]}/{lines[head - 1][4:].decode()}"
+        yield Part(name, file, head, lines[head : end - 1])
 
 
 def is_plain(line):
@@ -142,17 +166,15 @@ def pattern_of(line):
 
 
 class Reader:
-    """The sections of a file: the text of each by its head, and the line of that."""
+    """The sections of a case: the text of each by its head, and the line of that."""
 
-    def __init__(self, name, text):
-        self.name, self.texts, self.heads = name, {}, {}
-        *lines, last = text.split(b"\n")
-        if last:
-            self.fail(len(lines) + 1, "the last line has no newline")
+    def __init__(self, part):
+        self.part, self.texts, self.heads = part, {}, {}
+        lines = part.lines
         for number, line in enumerate(lines, 1):
             if not is_plain(line):
                 self.fail(number, "a control character, or bytes that aren't UTF-8")
-        at = [number for number, line in enumerate(lines) if line.startswith(b"--- ")]
+        at = [number for number, line in enumerate(lines) if line.startswith((b"--- ", b"=== "))]
         if at[:1] != [0]:
             self.fail(1, "a case begins with the head of a section")
         for start, end in zip(at, [*at[1:], len(lines)]):
@@ -162,7 +184,7 @@ class Reader:
                 self.fail(len(lines), f"the case ends without a section '{key}'")
 
     def fail(self, number, what):
-        raise BadUse(f"{self.name}.case, line {number}: {what}")
+        raise BadUse(f"{self.part.file}, line {self.part.above + number}: {what}")
 
     def read_section(self, number, head, lines):
         found = HEAD.fullmatch(head)
@@ -203,7 +225,8 @@ class Reader:
         texts = {key: self.texts.get(key, b"") for key in ("stdin", "status", "stdout", "stderr")}
         texts["then_status"] = self.texts.get("then status", 0)
         texts["then_stdout"] = self.texts.get("then stdout")
-        case = Case(self.name, self.words("call"), then, **texts, files={})
+        text = b"\n".join([*self.part.lines, b""])
+        case = Case(self.part.name, text, self.words("call"), then, **texts, files={})
         for key in [it for it in self.texts if it.startswith("file ")]:
             name = key[5:].encode()
             if not is_named(name, case.words + then) or then and name in outputs:

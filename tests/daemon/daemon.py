@@ -51,10 +51,7 @@ def runs(*names):
 
 
 class Room:
-    """A folder with tables, declarations, a certificate and stamps, and the last daemon over them.
-
-    What that prints is in the files `printed` and `said`.
-    """
+    """A folder of files and stamps, and the last daemon, which prints into `printed` and `said`."""
 
     def __init__(self, program, folder, libraries):
         self.program, self.folder, self.libraries = program, folder, libraries
@@ -65,11 +62,7 @@ class Room:
         (self.folder / name).write_bytes(text if isinstance(text, bytes) else text.encode())
 
     def read(self, name):
-        """Returns the text of a file, '' where there is none, or of each file of a folder.
-
-        The state that a daemon keeps among its stamps is left out, and so is what `without_note`
-        leaves out.
-        """
+        """Returns the text of a file, '' for none, or of each in a folder but a daemon's state."""
         path = self.folder / name
         if path.is_dir():
             inside = (it for it in path.iterdir() if not it.name.startswith("cronsafe state"))

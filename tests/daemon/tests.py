@@ -1,4 +1,4 @@
-"""The tests of `run`. Each says which wrong daemons it is there for.
+"""The tests of `run`.
 
 The clock is the machine's own. A job of an anacrontab that has no stamp is started at once, so that
 tests with such jobs alone take some seconds; a command of a crontab waits for its minute.
@@ -13,6 +13,7 @@ import re
 import signal
 import time
 from concurrent.futures import ThreadPoolExecutor
+from pathlib import Path
 
 from harness import Fault, wanted
 
@@ -30,24 +31,14 @@ HELD = f"{UNTIL.format('done')}; echo x >>ran"
 # a job of an anacrontab that says that it ran
 ONE_JOB = "7 0 a echo x >>ran\n"
 ONCE = ("--minutes", "0")
+UNUSED = (2, "", "cronsafe: no daemon uses stamps\n")
 # What is told beside a refusal that the certificate of other files would have.
 STALE = (
     "note: the tables or declarations may have changed since the certificate was made: "
     "cronsafe make TABLE DECLS makes a new one\n"
 )
 # the table of `jobs_are_run`, above and below its shell
-TABLE = r"""# no command stands here
-FIRST = 'of two  words '
-* * * * * date +\%s >>times
-* * * * * echo "$FIRST,${LATER-none},$SHELL,$OUTSIDE" >>settings
-* * * * * cat >>input; echo : >>input%one%two\%
-* * * * * cat >>nothing; echo : >>nothing
-* * * * * echo left out >>settings
-@reboot echo left out >>settings
-CRON_TZ = UTC
-FIRST = once more
-LATER =
-"""
+TABLE = Path(__file__).with_name("table").read_text("utf-8")
 LAST = '* * * * * echo "$FIRST,${LATER-none},$SHELL" >>others\n'
 
 
@@ -70,8 +61,7 @@ def moments_and_texts(lines):
     """Returns the seconds since 1970 at the front of lines of a log, and what is behind them."""
     found = [re.fullmatch(r"(\d{4}-\d\d-\d\dT\d\d:\d\d:\d\dZ) (.+)", it) for it in lines]
     wanted("lines with times", True, all(found))
-    seconds = [calendar.timegm(time.strptime(it[1], "%Y-%m-%dT%H:%M:%SZ")) for it in found]
-    return seconds, [it[2] for it in found]
+    return [seconds_of(it[1]) for it in found], [it[2] for it in found]
 
 
 def digest_lines(room):
@@ -94,19 +84,28 @@ def take_job(room, command="echo x >>ran", **terms):
     return minute, f"job a at {date_text(minute)}"
 
 
+def begin(room, *options, **paths):
+    """Starts a daemon of a plan without a job, and waits until it tells its state."""
+    room.take(declared(1), "")
+    room.start(room.words(*options, **paths), given="")
+    room.wait_for("a state", lambda: (room.folder / "stamps" / "cronsafe state").is_file())
+
+
+def begin_job(room, command):
+    """Starts a daemon of a job of an anacrontab, and waits for the run; returns minute and run."""
+    minute, run = take_job(room, command)
+    room.start(room.words())
+    room.wait_for_line(f"started {run}")
+    return minute, run
+
+
 def due_at(minute):
     """Returns the five fields of a line that is due at that minute of each day."""
     return f"{minute % 60} {minute // 60 % 24} * * *"
 
 
 def jobs_are_run(room):
-    """Minutely commands and a job of an anacrontab, at an offset, with settings and inputs.
-
-    For a daemon that starts nothing, starts what is due in the minute in which it comes up, a run
-    twice, or not in each minute; that starts a line that is left out, or is mistaken about those
-    below it; that goes by UTC in place of the offset; that loses or mixes up settings, a shell, `%`
-    or an input; that lets jobs read what is its own; that goes on.
-    """
+    """Minutely commands and a job of an anacrontab, at an offset, with settings and inputs."""
     shell = room.folder / "shell"
     shell.write_text("#!/bin/sh\nprintf '%s\\n' \"$0 $1 $2\" >>words\nexec /bin/sh \"$@\"\n")
     shell.chmod(0o755)
@@ -135,11 +134,7 @@ def jobs_are_run(room):
 
 
 def no_minutes(room):
-    """A clock that stops at once, with the table on standard input.
-
-    For a daemon that takes 0 for no limit, starts what is due in the minute in which it comes up
-    or a job whose stamp is young enough, or prints more than there is to tell.
-    """
+    """A clock that stops at once, with the table on standard input."""
     table, stamp = "* * * * * echo x >>ran\n", stamp_text(minute_now() - DAY)
     room.take(declared(3, [1], ["a"]), table, ONE_JOB)
     room.write("stamps/a", stamp)
@@ -148,13 +143,7 @@ def no_minutes(room):
 
 
 def test_of_stamp(name, stamp, is_run, *more):
-    """Returns a test of a job with a stamp: so many days old, of another text, or none.
-
-    For a daemon that writes no stamp, another day or text, or leaves more files; that runs a job
-    again on the same day, a day too early or late, or never again, also where its stamp is of a day
-    that is still to come; that gives up at a stamp that isn't one, doesn't run the job, doesn't
-    tell, or tells of an empty file, which is no stamp.
-    """
+    """Returns a test of a job with a stamp: so many days old, of another text, or none."""
 
     def test(room):
         minute, run = take_job(room)
@@ -171,10 +160,7 @@ def test_of_stamp(name, stamp, is_run, *more):
 
 
 def unwritable_folder(room):
-    """A folder of stamps in which nothing can be written.
-
-    For a daemon that gives up, doesn't run the job, or doesn't tell that a stamp is lost.
-    """
+    """A folder of stamps in which nothing can be written."""
     room.take(declared(1, [], ["not-written"]), "", "1 0 not-written echo x >>ran\n")
     run = f"job not-written at {date_text(early_minute())}"
     # (not even the superuser makes files there)
@@ -186,11 +172,7 @@ def unwritable_folder(room):
 
 
 def unwritable_stamps(room):
-    """A folder that stands in the place of a stamp file, and is taken away later.
-
-    For a daemon that gives up, tries once alone, doesn't tell of each try, writes on and on, or
-    ends by itself though it has no number of minutes.
-    """
+    """A folder that stands in the place of a stamp file, and is taken away later."""
     in_the_way = room.folder / "stamps/a"
     in_the_way.mkdir()
     minute, run = take_job(room)
@@ -211,28 +193,10 @@ def unwritable_stamps(room):
     wanted("time of the stamp file", written, os.stat(in_the_way).st_mtime_ns)
 
 
-def no_folder(room):
-    """Paths that name no folder of stamps: nothing, and a file.
-
-    For a daemon that goes on without stamps, makes a folder, or ends with another status or text.
-    """
-    take_job(room)
-    room.write("file", "")
-    for path in ("none", "file"):
-        room.run(*ONCE, stamps=path, status=6, seconds=SOON)
-        room.holds(printed="", said=f"cronsafe: no folder {path}\n", ran="")
-    wanted("a folder was made", False, (room.folder / "none").exists())
-
-
 def second_daemon(room):
-    """A second daemon on a folder of stamps, while the first goes on and after it was killed.
-
-    For a daemon that starts everything again, ends with another status or text, waits, or leaves
-    the lock behind, or to a job that goes on.
-    """
-    minute, run = take_job(room, "sleep 100; echo x >>ran")
-    first = room.start(room.words())
-    room.wait_for_line(f"started {run}")
+    """A second daemon on a folder of stamps, while the first goes on and after it was killed."""
+    minute, _ = begin_job(room, "sleep 100; echo x >>ran")
+    first = room.daemons[-1]
     room.run(*ONCE, status=6, seconds=SOON)
     room.holds(printed="", said="cronsafe: another daemon uses stamps\n", stamps={})
     os.kill(first.pid, signal.SIGKILL)
@@ -243,36 +207,19 @@ def second_daemon(room):
 
 
 def stopped(room):
-    """`stop` beside a daemon with a run under way, and then `stop` without one.
-
-    For a daemon that ends its run, starts another, loses the stamp or ends with another status; for
-    a `stop` that ends before the daemon has, or leaves behind what asks a daemon to stop.
-    """
-    minute, run = take_job(room, "sleep 9; echo x >>ran")
-    room.start(room.words())
-    room.wait_for_line(f"started {run}")
+    """`stop` beside a daemon with a run under way, and then `stop` without one."""
+    minute, run = begin_job(room, "sleep 9; echo x >>ran")
     waited = "cronsafe: waiting for the runs under way to end\n"
     wanted("stop", (0, "", waited), room.ask("stop", "stamps"))
     room.ends(0)
     room.holds(runs(run), said="", ran="x\n", stamps={"a": stamp_text(minute)})
-    unused = (2, "", "cronsafe: no daemon uses stamps\n")
-    wanted("stop of nobody", unused, room.ask("stop", "stamps"))
-    wanted("stop of nobody", unused, room.ask("stop", "--now", "stamps"))
-    absent = (6, "", "cronsafe: no folder nowhere\n")
-    wanted("stop of no folder", absent, room.ask("stop", "nowhere"))
-    wanted("stop of a file", (6, "", "cronsafe: no folder crontab\n"), room.ask("stop", "crontab"))
+    wanted("stop of nobody", UNUSED, room.ask("stop", "stamps"))
     room.holds(stamps={"a": stamp_text(minute)})
 
 
 def stopped_twice(room):
-    """`stop --now`, which doesn't wait, twice, and a daemon that comes next.
-
-    For a `stop` that waits, a daemon that needs it to wait, and one that is stopped by what an
-    earlier daemon was asked.
-    """
-    _, run = take_job(room, HELD)
-    room.start(room.words())
-    room.wait_for_line(f"started {run}")
+    """`stop --now`, which doesn't wait, twice, and a daemon that comes next."""
+    _, run = begin_job(room, HELD)
     for _ in range(2):
         wanted("stop --now", (0, "", ""), room.ask("stop", "stamps", "--now"))
     room.write("done", "")
@@ -287,10 +234,7 @@ def stopped_twice(room):
 
 
 def stop_that_stays(room):
-    """A folder where the file is that asks a daemon to stop: it can't be removed.
-
-    For a daemon that runs and is stopped at once, or isn't to be stopped.
-    """
+    """A folder where the file is that asks a daemon to stop: it can't be removed."""
     take_job(room)
     (room.folder / "stamps" / "cronsafe stop").mkdir()
     room.run(*ONCE, status=6, seconds=SOON)
@@ -298,11 +242,7 @@ def stop_that_stays(room):
 
 
 def reloaded(room):
-    """`reload` beside a run under way, with other tables, with no certificate, and of nobody.
-
-    For a daemon that ends its run, starts it again or loses its stamp; that waits for it before it
-    answers, goes on with the old tables, or takes what can't be read.
-    """
+    """`reload` beside a run under way, with other tables, with no certificate, and of nobody."""
     minute, run = take_job(room, HELD)
     room.start(room.words("--log", "log"))
     room.wait_for("a start", lambda: f"started {run}" in room.read("log"))
@@ -327,10 +267,7 @@ def reloaded(room):
     old = [*begins, "asked to", "reload accepted,", "ended job", "stopped"]
     wanted("kinds of lines", old + new, kinds)
     wanted("the stamp", stamp_text(minute), room.read("stamps")["a"])
-    unused = (2, "", "cronsafe: no daemon uses stamps\n")
-    wanted("reload of nobody", unused, room.ask("reload", "stamps"))
-    absent = (6, "", "cronsafe: no folder nowhere\n")
-    wanted("reload of no folder", absent, room.ask("reload", "nowhere"))
+    wanted("reload of nobody", UNUSED, room.ask("reload", "stamps"))
     wanted("what is left", {"a", "b"}, set(room.read("stamps")))
 
 
@@ -340,11 +277,7 @@ OTHER_PARTS = {"cron": [{"line": 4, "max": 1, "parts": [{"name": "a", "max": 1}]
 
 
 def refused_reload(room):
-    """`reload` with what `check` refuses: a certificate of a plan with a shorter longest time, and
-    declarations with other parts than those of their gathered table.
-
-    For a daemon that takes it or ends, or says it otherwise than `check`, without the note.
-    """
+    """`reload` with what `check` refuses: an old certificate, and parts that weren't gathered."""
     table = "* * * * * echo old >>ran\n30 23 * * * :\n"
     room.take(declared(4, (1, 2), line2={"max": 10}), table)
     room.step("--log", "log", seconds=6)
@@ -373,9 +306,7 @@ def refused_reload(room):
 
 def late_answer(room):
     """`reload` of a daemon that is held up. For one that doesn't wait, or doesn't say so."""
-    room.take(declared(1), "")
-    room.start(room.words())
-    room.wait_for("a state", lambda: (room.folder / "stamps" / "cronsafe state").is_file())
+    begin(room)
     room.send(signal.SIGSTOP)
     with ThreadPoolExecutor(1) as pool:
         asked = pool.submit(room.ask, "reload", "stamps")
@@ -387,9 +318,7 @@ def late_answer(room):
 
 def stopped_while_it_reloads(room):
     """`stop` while the last run of the old plan ends. For a daemon that opens the new plan by then."""
-    minute, run = take_job(room, HELD)
-    room.start(room.words())
-    room.wait_for_line(f"started {run}")
+    minute, run = begin_job(room, HELD)
     room.take(declared(1, [], ["a", "b"]), "", "7 0 a echo y >>ran\n7 0 b echo z >>ran\n")
     wanted("reload", (0, "", ""), room.reload())
     wanted("stop --now", (0, "", ""), room.ask("stop", "stamps", "--now"))
@@ -401,9 +330,7 @@ def stopped_while_it_reloads(room):
 
 def reload_of_standard_input(room):
     """`reload` of a daemon whose table was standard input. For one that takes an empty table then."""
-    room.take(declared(1), "")
-    room.start(room.words(table="-"), given="")
-    room.wait_for("a state", lambda: (room.folder / "stamps" / "cronsafe state").is_file())
+    begin(room, table="-")
     told = (6, "", "cronsafe: can't read standard input again\n")
     wanted("reload", told, room.reload())
     room.stop()
@@ -411,9 +338,7 @@ def reload_of_standard_input(room):
 
 def reload_of_a_pipe(room):
     """`reload` where a pipe or a folder has taken a file's place. For a daemon that waits for it."""
-    room.take(declared(1), "")
-    room.start(room.words())
-    room.wait_for("a state", lambda: (room.folder / "stamps" / "cronsafe state").is_file())
+    begin(room)
     told = (6, "", "cronsafe: can't read a pipe, a device or a folder again\n")
     for name in ("crontab", "declarations", "certificate"):
         path, aside = room.folder / name, room.folder / "aside"
@@ -431,9 +356,7 @@ def reload_of_a_pipe(room):
 
 def warnings_of_a_reload(room):
     """`reload` of a table with a setting that has no effect. For a daemon that warns nobody of it."""
-    room.take(declared(1), "")
-    room.start(room.words())
-    room.wait_for("a state", lambda: (room.folder / "stamps" / "cronsafe state").is_file())
+    begin(room)
     room.write("crontab", "CRON_TZ=UTC\n")
     status, out, err = room.call("check", "crontab", "declarations", "certificate")
     wanted("check", (0, "safe\n", 1), (status, out, err.count("CRON_TZ")))
@@ -443,9 +366,7 @@ def warnings_of_a_reload(room):
 
 def answer_that_cant_be_written(room):
     """`reload` where the answer has no place. For one that waits for ever, or a daemon that reloads."""
-    room.take(declared(1), "")
-    room.start(room.words("--log", "log"))
-    room.wait_for("a state", lambda: (room.folder / "stamps" / "cronsafe state").is_file())
+    begin(room, "--log", "log")
     place = room.folder / "stamps" / "cronsafe answer new"
     place.mkdir()
     told = (6, "", "cronsafe: can't read the answer in stamps\n")
@@ -466,10 +387,7 @@ def wait_for_plans(room, number):
 
 
 def reloaded_often(room):
-    """Minutely runs while the daemon is asked to reload six times, by a clock that goes by steps.
-
-    For a daemon that goes through a minute twice, or loses one of which it doesn't tell.
-    """
+    """Minutely runs while the daemon is asked to reload six times, by a clock of steps."""
     room.take(declared(2, [1]), "* * * * * echo x >>ran\n")
     room.step("--log", "log", seconds=7)
     for times in range(6):
@@ -494,19 +412,14 @@ def minute_of(text):
 
 
 def called_hooks(room):
-    """A run that fails, and one that is late, by a clock that goes by steps, with a command for each.
-
-    For a daemon that calls none, calls one twice or for other runs, waits for it, or mistakes what may
-    meet a late run.
-    """
+    """A run that fails, and one that is late, by a clock of steps, with a command for each."""
     minute = minute_now() + 3
     table = f"{due_at(minute)} sleep 2\n{due_at(minute + 600)} :\n{due_at(minute)} exit 3\n"
     terms = {"group": "g", "max": 1}
     room.take(declared(3, [1, 2, 3], groups=["g"], line1=terms, line2=terms), table)
     tell = 'echo "$CRONSAFE_EVENT $CRONSAFE_RUN'
     room.step(
-        "--log",
-        "log",
+        *("--log", "log"),
         *("--on-overrun", f'{tell} $CRONSAFE_MAY_MEET" >>told; sleep 60'),
         *("--on-failure", f'{tell} $CRONSAFE_STATUS" >>told; sleep 60'),
         seconds=6,
@@ -522,10 +435,7 @@ def called_hooks(room):
 
 
 def own_home(room):
-    """Commands with `--home`, with and without a HOME of the table.
-
-    For a daemon that mistakes its user, or the folder that a command begins in.
-    """
+    """Commands with `--home`, with and without a HOME of the table."""
     user = pwd.getpwuid(os.geteuid())
     tell = f"echo $HOME $LOGNAME $USER $(pwd) >>{room.folder}/ran"
     table = f"* * * * * {tell}\nHOME = /\nUSER = someone\n* * * * * {tell}\n"
@@ -538,11 +448,7 @@ def own_home(room):
 
 
 def timed_log(room):
-    """A log with times, behind what its file holds already, and on standard output.
-
-    For a daemon that loses what was there, or mixes it with what jobs print; whose times aren't
-    those of the events, or that counts no seconds; that tells no beginning or end.
-    """
+    """A log with times, behind what its file holds already, and on standard output."""
     command = "echo printed; sleep 3; exit 4"
     _, run = take_job(room, command)
     room.write("log", "what was there\n")
@@ -566,24 +472,6 @@ def timed_log(room):
     kinds = [it.split()[0] for it in texts]
     digests = ["table", "declarations", "certificate"]
     wanted("kinds of lines", ["running", *digests, "started", "ended", "stopped"], kinds)
-
-
-def log_of_a_stop(room):
-    """What a log says of a daemon that is asked to stop."""
-    take_job(room)
-    room.start(room.words("--log", "log"))
-    room.wait_for("a run", lambda: "ended" in room.read("log"))
-    room.stop()
-    _, texts = moments_and_texts(room.read("log").splitlines())
-    wanted("its end", ["asked to stop", "stopped"], texts[-2:])
-
-
-def log_that_cant_be_written(room):
-    """A log that is a folder, or in one that isn't there. For a daemon that runs without a log."""
-    take_job(room)
-    for path in ("stamps", "nowhere/log"):
-        room.run(*ONCE, "--log", path, status=6, seconds=SOON)
-        room.holds(printed="", said=f"cronsafe: can't write {path}\n", ran="", stamps={})
 
 
 def state_of(room, line):
@@ -626,12 +514,7 @@ def written_state(room, is_it, seconds=SOON):
 
 
 def told_state(room):
-    """What `status` says of a run, of a daemon that is asked to stop, and of none.
-
-    For a daemon that tells no state, one of other files, or none of the run; for a `status` that
-    mixes up lines or members, tells of a daemon that has ended, or is mistaken about how long a run
-    may take.
-    """
+    """What `status` says of a run, of a daemon that is asked to stop, and of none."""
     _, run = take_job(room, HELD)
     before = int(time.time())
     room.start(room.words())
@@ -651,6 +534,7 @@ def told_state(room):
     wanted("end of --json", (0, ""), (status, err))
     state = json.loads(out)
     _, version, _ = room.call("--version")
+    lasting = {"since": started[1], "until": started[2]}
     told = {
         "version": version.split()[1],
         "at": state["at"],
@@ -662,15 +546,7 @@ def told_state(room):
         "anacrontab": "anacrontab",
         "capacity": 1,
         "stopping": False,
-        "running": [
-            {
-                "run": run,
-                "since": started[1],
-                "until": started[2],
-                "late": False,
-                "may_meet": "",
-            }
-        ],
+        "running": [{"run": run, **lasting, "late": False, "may_meet": ""}],
         "waiting": [],
         "next_due": None,
         **dict.fromkeys(("skipped", "overruns", "outages", "left_out", "not_started"), 0),
@@ -683,10 +559,7 @@ def told_state(room):
     wanted("lines while it stops", [files, "nothing more is started"], lines[1:3])
     room.write("done", "")
     room.ends(0)
-    unused = (2, "", "cronsafe: no daemon uses stamps\n")
-    wanted("status of nobody", unused, room.ask("status", "stamps"))
-    absent = (6, "", "cronsafe: no folder nowhere\n")
-    wanted("status of no folder", absent, room.ask("status", "nowhere"))
+    wanted("status of nobody", UNUSED, room.ask("status", "stamps"))
 
 
 def late_state(room):
@@ -711,11 +584,7 @@ def late_state(room):
 
 
 def late_run_that_meets(room):
-    """A run that takes longer than declared, and a line whose run comes meanwhile.
-
-    For a log or a state that doesn't tell whom the late run may meet, or tells it of the other run,
-    of a run that isn't late, or twice; that tells another end, or another run as due next.
-    """
+    """A run that takes longer than declared, and a line whose run comes meanwhile."""
     due = early_minute() + 1
     table = f"{due_at(due)} {UNTIL.format('done')}\n{due_at(due + 2)} sleep 9\n"
     terms = {"group": "g", "max": 1}
@@ -752,26 +621,9 @@ def late_run_that_meets(room):
     wanted("lines of what meets", 1, sum(" may meet " in it for it in texts))
 
 
-# the state of a daemon with one run that waits
-STATE = {
-    "version": "0",
-    "at": "",
-    "since": "2024-09-13T20:00:01Z",
-    "table": "evening.cron",
-    "declarations": "evening.json",
-    "certificate": "evening.cert",
-    "anacrontab": None,
-    "capacity": 3,
-    "stopping": False,
-    "running": [],
-    "waiting": ["line 2 due 2024-09-13 23:30"],
-    "skipped": 1,
-    "overruns": 2,
-    "outages": 3,
-    "not_started": 4,
-    "stamps_not_written": 5,
-    "stamp_fault_at": None,
-}
+# the state of a daemon with one run that waits, and what makes it none
+STATE, *NO_STATES = Path(__file__).with_name("states").read_text("utf-8").splitlines()
+STATE, NO_STATES = json.loads(STATE), list(map(json.loads, NO_STATES))
 COUNTS = "skipped 1, overruns 2, not started 4, outages 3, stamps not written 5"
 
 
@@ -780,12 +632,7 @@ def moment_text(seconds):
 
 
 def states_by_hand(room):
-    """States that a lock holder has written, and what `status` says of each.
-
-    For a `status` that is mistaken about what is late, about two minutes, about a daemon that
-    stops, about null, or about members that an earlier version doesn't tell, or that prints
-    something else with --json.
-    """
+    """States that a lock holder has written, and what `status` says of each."""
     folder = os.open(room.folder / "stamps", os.O_RDONLY)
     fcntl.flock(folder, fcntl.LOCK_EX)
     now = int(time.time())
@@ -832,21 +679,16 @@ def states_by_hand(room):
         wanted(f"status --json of {members}", (status, text, err), as_it_is)
     fcntl.flock(folder, fcntl.LOCK_UN)  # a child that another test forks may hold the descriptor still
     os.close(folder)
-    unused = (2, "", "cronsafe: no daemon uses stamps\n")
-    wanted("status of nobody", unused, room.ask("status", "stamps"))
+    wanted("status of nobody", UNUSED, room.ask("status", "stamps"))
 
 
 def states_that_cant_be_read(room):
-    """What is no state: no file, another kind of file, too much, no JSON or another.
-
-    For a `status` that waits for a pipe, follows a link, or believes what it reads.
-    """
+    """What is no state: no file, another kind of file, too much, no JSON or another."""
     folder = os.open(room.folder / "stamps", os.O_RDONLY)
     fcntl.flock(folder, fcntl.LOCK_EX)
     path = room.folder / "stamps" / "cronsafe state"
     unread = (6, "", "cronsafe: can't read the state in stamps\n")
-    now = moment_text(int(time.time()))
-    fine = {**STATE, "at": now}
+    fine = {**STATE, "at": moment_text(int(time.time()))}
     room.write("fine", json.dumps(fine))
 
     def look(what):
@@ -863,28 +705,8 @@ def states_that_cant_be_read(room):
     path.symlink_to(room.folder / "fine")
     look("a link")
     path.unlink()
-    late = {"run": "a", "since": now, "late": True}
-    wrong = [
-        *({key: it for key, it in fine.items() if key != absent} for absent in list(fine)[1:]),
-        {**fine, "at": "2024-02-30T00:00:00Z"},
-        {**fine, "at": now[:-1]},
-        {**fine, "since": f"{now} "},
-        {**fine, "table": "red \x1b[31m"},
-        {**fine, "capacity": -1},
-        {**fine, "skipped": 2**64},
-        *({**fine, "left_out": it} for it in (-1, 2**64, 1.5, "1", None)),
-        {**fine, "running": [{"run": "a", "since": now}]},
-        {**fine, "running": [{**late, "until": "soon"}]},
-        {**fine, "running": [{**late, "may_meet": None}]},
-        {**fine, "running": [{**late, "may_meet": "red \x1b[31m"}]},
-        {**fine, "running": {}},
-        {**fine, "waiting": [1]},
-        {**fine, "next_due": 1},
-        {**fine, "next_due": "red \x1b[31m"},
-        *({**fine, "certificate_sha256": it} for it in (None, "0f" * 31, "0F" * 32, "0g" * 32)),
-        {**fine, "stopping": None},
-        {**fine, "stamp_fault_at": "never"},
-    ]
+    wrong = [{key: it for key, it in fine.items() if key != absent} for absent in list(fine)[1:]]
+    wrong += [{**fine, **it} for it in NO_STATES]
     texts = ["", "{}", "[]", "1", json.dumps(fine)[:-1], json.dumps(fine) + " " * 2**20]
     for text in (*texts, *map(json.dumps, wrong), json.dumps(fine).replace("evening", "\udcff")):
         path.write_bytes(text.encode("utf-8", "surrogateescape"))
@@ -895,10 +717,7 @@ def states_that_cant_be_read(room):
 
 
 def shown_name(room):
-    """An identifier that would make a line and colours of its own, and such a command.
-
-    For a log with times that a text can forge or that a terminal obeys.
-    """
+    """An identifier that would make a line and colours of its own, and such a command."""
     name = "a\x1b[31m\rb"
     table = "0 0 1 1 * printf 'a\\tb'\t|\x1b[31m cat\n"
     room.take(declared(2, [1], [name]), table, f"7 0 {name} true\n")
@@ -910,10 +729,7 @@ def shown_name(room):
 
 
 def signal_in_a_log(room):
-    """A job that is killed, told in a log with times and to a command of the operator's.
-
-    For a daemon that tells another signal, or calls the end a status.
-    """
+    """A job that is killed, told in a log with times and to a command of the operator's."""
     _, run = take_job(room, "kill -9 $$")
     hook = 'echo "$CRONSAFE_RUN $CRONSAFE_STATUS" >>told'
     room.start(room.words("--log", "log", "--on-failure", hook))
@@ -924,10 +740,6 @@ def signal_in_a_log(room):
     wanted("ends", 1, len(ends))
     wanted("the end", True, bool(re.fullmatch(f"ended {run} signal 9 after \\d+ s", ends[0])))
     wanted("the call", f"{run} signal 9\n", room.read("told"))
-    words = ("replay", "crontab", "log", "--declarations", "declarations", "--log", "--script")
-    status, script, err = room.call(*words)
-    wanted("replay", (0, ""), (status, err))
-    wanted("its end in a script", True, f"end {run.replace(' at', '')}\n" in script)
 
 
 def mail_in_a_log(room):
@@ -947,23 +759,20 @@ def output_name(minute, job):
 
 
 def output_files(room):
-    """What jobs print goes into files of their own, of which two of each job are kept.
-
-    For a daemon that mixes outputs with its log, mistakes names, removes a file of another job or
-    another's, the newest or none; for one that runs nothing where there is no file to be had.
-    """
+    """What jobs print goes into files of their own, of which two of each job are kept."""
     (room.folder / "out").mkdir()
     others = ["2024-01-01T00:00-line-1", "2024-01-01T00:00-job-aa", "2024-01-01T00:00-job-a ", "x-job-a"]
     old = [f"2024-01-0{it}T00:00-job-a" for it in (1, 2, 3)]
     for name in (*others, *old):
         room.write(f"out/{name}", name)
     minute, run = take_job(room, "echo told; echo wrong >&2; exit 3")
+    name = output_name(minute, "job-a")
+    room.write(f"out/{name}", "before\n")
     words = (*ONCE, "--output", "out", "--keep", "2")
     room.run(*words, seconds=SOON)
     room.holds([f"started {run}", f"ended {run} status 3"], said="")
-    name = output_name(minute, "job-a")
     kept = {it: it for it in (*others, old[2])}
-    wanted("files", {**kept, name: "told\nwrong\n"}, room.read("out"))
+    wanted("files", {**kept, name: "before\ntold\nwrong\n"}, room.read("out"))
     (room.folder / "stamps" / "a").unlink()
     for path in (room.folder / "out").iterdir():
         path.unlink()
@@ -987,22 +796,8 @@ def outputs_of_a_line(room):
     wanted("files", newest, room.read("out"))
 
 
-def no_output_folder(room):
-    """A folder for outputs that isn't there. For a daemon that runs jobs whose outputs are lost."""
-    take_job(room)
-    room.write("file", "")
-    for path in ("nowhere", "file"):
-        room.run(*ONCE, "--output", path, status=6, seconds=SOON)
-        room.holds(printed="", said=f"cronsafe: no folder {path}\n", ran="", stamps={})
-    status, _, _ = room.ask(*room.words(*ONCE, "--keep", "3")[1:])
-    wanted("status of --keep alone", 4, status)
-
-
 def next_of_a_table(room):
-    """What `status` says is due next, at an offset: this minute's next, and then the first of two.
-
-    For a state of another line or another minute, or of the machine's own clock, or that stays.
-    """
+    """What `status` says is due next, at an offset: this minute's next, then the first of two."""
     due = early_minute() + 31
     fields = [due_at(due + 60), due_at(due), due_at(due + 60)]
     room.take(declared(3, (1, 2, 3), offset=30), "".join(f"{it} :\n" for it in fields))
@@ -1014,32 +809,8 @@ def next_of_a_table(room):
     room.stop()
 
 
-def nothing_due_soon(room):
-    """A line that is due in twenty days. For a state that looks for it for ever, or tells another."""
-    day = time.gmtime(time.time() + 20 * DAY * MINUTE)
-    room.take(declared(1, [1]), f"0 0 {day.tm_mday} {day.tm_mon} * :\n")
-    room.start(room.words())
-    lines = state_of(room, "skipped 0")
-    wanted("lines", 3, len(lines))
-    room.stop()
-
-
-def learned_log(room):
-    """`learn` reads a log with times."""
-    room.take(declared(2, [1]), "* * * * * sleep 2\n")
-    early_minute()
-    room.run("--minutes", "2", "--log", "log", seconds=4 * MINUTE)
-    status, _, told = room.call("learn", "crontab", "log")
-    wanted("status of learn", 0, status)
-    wanted("runs of learn", True, told.startswith("line 1: 1 run "))
-
-
 def closed_streams(room):
-    """A daemon that is started without standard input, output or error, or without any of them.
-
-    For one whose stamp, log or lock gets the number of a stream that was closed, so that lines and
-    what jobs print are written into it, or jobs read it.
-    """
+    """A daemon that is started without standard input, output or error, or without any of them."""
     command = "cat; echo to_output; echo to_error >&2; (ls -l /proc/$$/fd >fds); true"
     for closed in ("<&-", ">&-", "2>&-", "<&- >&- 2>&-"):
         minute, _ = take_job(room, command)
@@ -1058,10 +829,7 @@ def closed_streams(room):
 
 
 def pipes_among_stamps(room):
-    """Pipes and a link in place of a stamp, of one that is being written, and of a state.
-
-    For a daemon that waits for a pipe for ever, or writes into what a link leads to.
-    """
+    """Pipes and a link in place of a stamp, of one that is being written, and of a state."""
     minute, run = take_job(room)
     folder = room.folder / "stamps"
     for name in ("a", "a new", "cronsafe state new"):
@@ -1078,11 +846,7 @@ def pipes_among_stamps(room):
 
 
 def clock_put_back(room):
-    """A clock that is put back by three minutes, catches up, and is put back by two hours.
-
-    For a daemon that ends where it should wait or goes on where it should end, that tells it each
-    second or only once its runs have ended, or runs a job twice.
-    """
+    """A clock that is put back by three minutes, catches up, and is put back by two hours."""
     take_job(room, "echo x >>ran; sleep 100")
     room.step("--log", "log")
     room.wait_for("a run", lambda: room.read("ran"))
@@ -1097,17 +861,14 @@ def clock_put_back(room):
     wanted("lines of clocks that went back", 2, len(backs))
     for line, minutes in zip(backs, (3, 120)):
         found = re.findall(r"\d{4}-\d\d-\d\d \d\d:\d\d", line)
-        shown, latest = (calendar.timegm(time.strptime(it, "%Y-%m-%d %H:%M")) // 60 for it in found)
+        shown, latest = map(minute_of, found)
         wanted(f"minutes in '{line}'", minutes, latest - shown)
     wanted("the daemon while its run goes on", None, room.status())
     wanted("runs", "x\n", room.read("ran"))
 
 
 def day_of_steps(room):
-    """A day of two jobs, by a clock that goes on by a minute in a hundredth of a second.
-
-    For a daemon that loses minutes, runs or lines, or keeps more memory the longer it goes on.
-    """
+    """A day of two jobs, by a clock that goes on by a minute in a hundredth of a second."""
     hourly, twice = "7 * * * * echo x >>hours", "*/30 * * * * echo x >>halves"
     room.take(declared(2, [1, 2], line1={"max": 50}, line2={"max": 25}), f"{hourly}\n{twice}\n")
     # it runs nothing in its first minute, and ends before its last
@@ -1152,11 +913,7 @@ def job_with_a_child(room):
 
 
 def killed_anywhere(room):
-    """Daemons that are killed a moment after their start, and what one does that comes next.
-
-    For a daemon that writes a stamp before the run has ended or half of one, or that runs a job
-    again on the day of its stamp, or loses it.
-    """
+    """Daemons that are killed a moment after their start, and what one does that comes next."""
     take_job(room, "echo a >>ran")
     with ThreadPoolExecutor(8) as pool:
         list(pool.map(lambda which: killed_at(room, which), range(200)))
@@ -1181,41 +938,8 @@ def killed_at(room, which):
         own.close()
 
 
-def refused_certificate(room):
-    """What `check` refuses: a certificate, a damaged one, none, declarations, a table.
-
-    For a daemon that runs what wasn't accepted, before or after it says so, and for one that says
-    it in other words or with another status than `check`.
-    """
-    absent = "cronsafe: can't read certificate: there is no such file\n"
-    empty_leaf = (
-        '{"classes":[{"backlog":[],"due":[]}],"kinds":{"class":0},'
-        '"pairs":[{"of":[0,0],"tree":{"list":[]}}],"reach":[],"version":1}'
-    )
-    window = "catch-up of a from 1970-01-02 00:00 at 1970-01-03 00:00"
-    plan = declared(1, [], ["a"])
-    for table, declarations, certificate, answer in (
-        ("", plan, empty_leaf, (1, f"refused 5 WindowMissing: {window}\n", STALE)),
-        ("", plan, empty_leaf[:-1], (3, "", "cronsafe: certificate: 2 NotJson\n")),
-        ("", plan, None, (6, "", absent)),
-        ("", declared(1), empty_leaf, (3, "", "cronsafe: declarations: 4 Undeclared at job a\n")),
-        ("60 * * * * x\n", plan, empty_leaf, (3, "", "cronsafe: crontab line 1: 7 OutOfField\n")),
-    ):
-        room.take_tables(declarations, table, ONE_JOB)
-        (room.folder / "certificate").unlink(missing_ok=True)
-        if certificate is not None:
-            room.write("certificate", certificate)
-        wanted("check", answer, room.call("check", "crontab", "declarations", "certificate"))
-        room.run(*ONCE, status=answer[0], seconds=SOON)
-        room.holds(printed=answer[1], said=answer[2], ran="", stamps={})
-
-
 def runs_that_wait(room):
-    """Two commands of one minute and one lock that wait, and two that share another lock.
-
-    For a daemon that takes no locks, gives a waiting run no turn or tells it twice, starts it again
-    when it gets its turn, or has one worker alone.
-    """
+    """Two commands of one minute and one lock that wait, and two that share another lock."""
     names = ("wait1", "wait2", "share1", "share2")
     wait, share = {"group": "g", "mode": "wait"}, {"group": "h", "mode": "shared"}
     terms = {"line1": wait, "line2": wait, "line3": share, "line4": share}
@@ -1238,32 +962,8 @@ def runs_that_wait(room):
         raise Fault(f"the runs that share a lock weren't at work at once: {times}")
 
 
-def skipped_run(room):
-    """A command that takes longer than declared, and one of its lock that doesn't wait for it.
-
-    For a daemon that starts the second, lets it wait, starts a command in minutes in which it isn't
-    due, tells an overrun of a command never or each second, or ends the first.
-    """
-    due = early_minute() + 1
-    lock = {"max": 1, "group": "g", "mode": "skip"}
-    table = f"{due_at(due)} sleep 64; echo x >>first\n{due_at(due + 1)} echo x >>second\n"
-    room.take(declared(2, (1, 2), groups=["g"], line1=lock, line2=lock), table)
-    room.start(room.words())
-    first, second = (f"line {it + 1} due {date_text(due + it)}" for it in (0, 1))
-    room.wait_for_line(f"ended {first} status 0", 3 * MINUTE)
-    # (the second would get its turn now, had it waited)
-    time.sleep(3)
-    room.end()
-    lines = [*runs(first), f"overrun {first}", f"skipped {second}"]
-    room.holds(lines, first="x\n", second="")
-
-
 def lost_log(room):
-    """A log that can't be written: a full device, a pipe that nobody reads, a closed output.
-
-    For a daemon that ends there, by a status or a signal, that doesn't run the job, or whose log
-    goes into another file.
-    """
+    """A log that can't be written: a full device, a pipe that nobody reads, a closed output."""
     take_job(room)
     words = room.words(*ONCE)
     read_end, write_end = os.pipe()
@@ -1280,23 +980,14 @@ def lost_log(room):
 
 
 def ended_by_a_signal(room):
-    """SIGTERM while a job runs.
-
-    For a daemon that doesn't end at the signal or only once the job has ended, or writes a stamp of
-    a run that hasn't ended; and for a log that isn't written until the end.
-    """
-    _, run = take_job(room, "sleep 100; echo x >>ran")
-    room.start(room.words())
-    room.wait_for_line(f"started {run}")
+    """SIGTERM while a job runs."""
+    _, run = begin_job(room, "sleep 100; echo x >>ran")
     room.end()
     room.holds(printed=f"started {run}\n", said="", stamps={})
 
 
 def overruns(room):
-    """A run that is late for two minutes.
-
-    For a daemon that tells it never, each second or each minute, ends the run, or gives up.
-    """
+    """A run that is late for two minutes."""
     minute, run = take_job(room, HELD, max=1)
     room.step()
     room.wait_for_line(f"started {run}")
@@ -1313,12 +1004,7 @@ def overruns(room):
 
 
 def job_not_started(room):
-    """Jobs whose shell isn't there or whose command isn't UTF-8, and one more.
-
-    For a daemon that ends there, waits for such a run, doesn't tell, tells it as ended, or doesn't
-    say why; and for one that leaves such a job without a stamp, so that it would be tried on each
-    pass.
-    """
+    """Jobs whose shell isn't there or whose command isn't UTF-8, and one more."""
     anacrontab = (
         b"SHELL = /no/such\n1 0 a echo x >>ran\n"
         b"SHELL = /bin/sh\n1 0 b echo \xff >>ran\n1 0 c echo c >>ran\n"
@@ -1337,10 +1023,7 @@ def job_not_started(room):
 
 
 def reasons_in_the_log(room):
-    """A job whose shell isn't there, and one whose output has a folder in its file's place.
-
-    For a log that doesn't say why, or doesn't say of which run.
-    """
+    """A job whose shell isn't there, and one whose output has a folder in its file's place."""
     anacrontab = "SHELL = /no/such\n1 0 a :\nSHELL = /bin/sh\n1 0 b echo x >>ran\n"
     room.take(declared(1, [], ["a", "b"]), "", anacrontab)
     first = early_minute()
@@ -1357,11 +1040,7 @@ def reasons_in_the_log(room):
 
 
 def ways_to_end(room):
-    """Jobs of an anacrontab that end in several ways, and the order in which they are started.
-
-    For a daemon that tells another status or none, keeps what a job writes to itself, starts a job
-    before its delay is over or beside another one, or goes by lines before delays.
-    """
+    """Jobs of an anacrontab that end in several ways, and the order in which they are started."""
     anacrontab = (
         "7 1 later echo later >>order\n"
         "7 0 fine echo fine >>order; sleep 3; echo fine >>order; echo told; echo wrong >&2\n"
@@ -1383,11 +1062,7 @@ def ways_to_end(room):
 
 
 def outage(room):
-    """A daemon that is held up for more than a minute.
-
-    For a daemon that makes up for the minutes that it missed, starts what is due in the minute in
-    which it comes up, doesn't tell, tells it twice, miscounts the runs that are left out, or gives up.
-    """
+    """A daemon that is held up for more than a minute."""
     room.take(declared(3, [1], ["a"]), "* * * * * echo x >>line\n", ONE_JOB)
     first = early_minute()
     room.start(room.words())
@@ -1406,16 +1081,16 @@ def outage(room):
 
 
 TESTS = [
-    *(jobs_are_run, no_minutes, unwritable_folder, unwritable_stamps, no_folder, second_daemon),
-    *(refused_certificate, runs_that_wait, skipped_run, lost_log, ended_by_a_signal, overruns),
+    *(jobs_are_run, no_minutes, unwritable_folder, unwritable_stamps, second_daemon),
+    *(runs_that_wait, lost_log, ended_by_a_signal, overruns),
     *(job_not_started, reasons_in_the_log, ways_to_end, outage),
-    *(stopped, stopped_twice, stop_that_stays, timed_log, log_of_a_stop, log_that_cant_be_written),
-    *(shown_name, learned_log, closed_streams, clock_put_back, day_of_steps, many_at_once),
+    *(stopped, stopped_twice, stop_that_stays, timed_log),
+    *(shown_name, closed_streams, clock_put_back, day_of_steps, many_at_once),
     *(job_with_a_child, killed_anywhere),
     *(reloaded, refused_reload, late_answer, stopped_while_it_reloads, reload_of_standard_input),
     *(reloaded_often, reload_of_a_pipe, warnings_of_a_reload, answer_that_cant_be_written),
     *(called_hooks, own_home, signal_in_a_log, mail_in_a_log),
-    *(output_files, outputs_of_a_line, no_output_folder, next_of_a_table, nothing_due_soon),
+    *(output_files, outputs_of_a_line, next_of_a_table),
     *(pipes_among_stamps, told_state, late_state, late_run_that_meets, states_by_hand),
     states_that_cant_be_read,
     test_of_stamp("no_stamp", None, True),

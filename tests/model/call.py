@@ -1,57 +1,59 @@
 """What a whole call answers, as far as this reading goes.
 
-Words, files and standard input go in; out come the status and both outputs. Of `judge`, `make`,
-`advise` and `room` only faults of what is read are known here: past them an answer is not told. Of
-`lint` it is known whether there is a fault, of `draft` whether there is one of the words or of a
-file.
+Words, files and standard input go in; out come the status and both outputs. The words have to be
+such as the program takes. Of `judge`, `make`, `advise` and `room` only faults of what is read are
+known here: past them an answer is not told. Of `draft` it is known whether there is one.
 """
 import re
 from collections import namedtuple
-from itertools import chain, takewhile
+from itertools import takewhile
 
+from harness import NO_CONFLICT
 from model import calendar, certificate, crontab, rules, script
 from model.anacrontab import NONE, read_anacrontab
 from model.calendar import DAY
 from model.day import day_answer
 from model.declarations import GREATEST_MAX, lines_named, plain_plan, read_declared, read_plan
 from model.faults import Fault
-from model.gather import gathered, shown, system_source, table_of, user_source
-from model.overload import overload_notes
 from model.replay import replay_answer
-from model.retrace import script_told
-from model.story import taker_notes
-from model.users import no_users_in, users_in, words_of
 
 # The words of each subcommand and its options; those in capitals are the paths of inputs.
 CALLS = {
     b"day": (("TABLE", "date", "max"), ("ANACRONTAB", "from", "to")),
     b"check": (("TABLE", "DECLS", "CERT"), ("ANACRONTAB",)),
     b"judge": (("TABLE", "DECLS"), ("ANACRONTAB",)),
-    b"make": (("TABLE", "DECLS"), ("ANACRONTAB",)),
+    b"make": (("TABLE", "DECLS"), ("ANACRONTAB", "compact")),
     b"advise": (("TABLE", "DECLS"), ("ANACRONTAB", "within")),
     b"room": (("TABLE", "DECLS"), ("ANACRONTAB",)),
-    b"replay": (("TABLE", "SCRIPT"), ("ANACRONTAB", "DECLARATIONS", "max")),
-    b"lint": (("TABLE", "DECLS"), ("ANACRONTAB", "ZONE", "only", "except")),
+    b"replay": (("TABLE", "SCRIPT"), ("ANACRONTAB", "DECLARATIONS", "max", "judge")),
     b"draft": (("TABLE",), ("ANACRONTAB", "max", "UPDATE")),
-    b"gather": ((), ("root", "SYSTEM", "USER")),
 }
-# How many of the last words of a subcommand may be left out.
-LEFT_OUT = {b"lint": 1}
-# The options of a subcommand that have no value.
-FLAGS = {b"make": ("compact",), b"replay": ("judge", "log", "script"), b"lint": ("faults-only",)}
-# The options that may be given more than once.
-LISTS = ("SYSTEM", "USER", "only", "except")
-NUMBERS = ("max", "from", "to", "within")
+# The options that have no value.
+FLAGS = ("compact", "judge")
+NUMBERS = ("max", "from", "to")
 HELP = (b"help", b"-h", b"--help")
-# What `lint` calls odd by name.
-ODD = b"""EachMinute UnevenStep BothDays PercentSign LongCommand Background Unexpanded TimeZone
-ValueComment Backslash CarriageReturn SameLine NoNewline UnusedGroup OtherLock MixedLocks NoOwnLock
-RebootLock ShortMax NoWhen SummerTime CommandComment""".lower().split()
 # Settings that other programs know and this one passes over.
 WITHOUT_EFFECT = (b"CRON_TZ", b"RANDOM_DELAY", b"START_HOURS_RANGE")
 
+# What isn't read here: what is told of the first words of commands, of an overload, and of the jobs
+# that take the lock of which a bound rises.
+UNREAD = re.compile(
+    rb"warning: the command on line \d+ of the crontab begins with .*\n"
+    rb"|note: .* may run then: weight \d+\n"
+    rb"|note: .* takes the lock: .*\n"
+)
 # Outputs that aren't told are none, and so is a status.
 Answer = namedtuple("Answer", "status out err")
+
+
+def shown(text):
+    """Returns bytes as a comment shows them: in one line, and harmless to a terminal."""
+    return re.sub(rb"[\x00-\x1f\x7f\\]", lambda it: b"\\x%02x" % it[0][0], text)
+
+
+def as_read(text):
+    """Returns what a call says, without what isn't read here."""
+    return UNREAD.sub(b"", text)
 
 
 def agrees(told, answer):
@@ -60,13 +62,7 @@ def agrees(told, answer):
     return told.status == answer.status and all(it in (None, got) for it, got in outputs)
 
 
-class NoCall(Exception):
-    """The words are no call."""
-
-
 JOBS_HINT = b"cronsafe: the table reads as an anacrontab: give it with --anacrontab\n"
-
-
 # What follows a longest time and hours that are words of the call.
 MAX_HINT = b"cronsafe: the longest time is from 1 to 4320 minutes\n"
 HOURS_HINT = b"cronsafe: --from is from 0 on and below --to, which is at most 1440\n"
@@ -79,9 +75,7 @@ class Unread(Exception):
 
 
 def hint_of(fault):
-    """Returns what follows a fault: of declarations who tells where it is, unless the fault itself
-    tells a line or a job of a table.
-    """
+    """Returns what follows a fault of declarations that doesn't tell a line or a job of a table."""
     is_told = fault.of != "declarations" or fault.place.startswith((b"line ", b"job "))
     return b"" if is_told else LINT_HINT
 
@@ -114,66 +108,21 @@ def words_of_check(words):
     return [b"check", *words]
 
 
-def number_of(word):
-    """Returns the number that a word holds: digits below 2^64, leading zeros too."""
-    digits, behind = crontab.digits_of(word)
-    digits = digits.lstrip(b"0") or digits[:1]
-    if not digits or behind or len(digits) > 20 or int(digits) >= 2**64:
-        raise NoCall
-    return int(digits)
-
-
-def named(words, options):
-    """Returns the words without options, and the values of the options by their names."""
-    plain, found, at = [], {}, 1
-    flags = FLAGS.get(words[0], ())
-    names = {b"--" + it.lower().encode(): it for it in (*options, *flags)}
-    while at < len(words):
-        option, equals, value = words[at].partition(b"=")
-        at += 1
-        if not option.startswith(b"-") or option == b"-":
-            plain.append(words[at - 1])
-            continue
-        if option not in names or names[option] in found and names[option] not in LISTS:
-            raise NoCall
-        if names[option] in flags:
-            if equals:
-                raise NoCall
-        elif not equals:
-            if at == len(words) or (words[at].startswith(b"-") and words[at] != b"-"):
-                raise NoCall
-            value = words[at]
-            at += 1
-        if names[option] in LISTS:
-            value = [*found.get(names[option], []), value]
-        found[names[option]] = value
-    return plain, found
-
-
-def told_by(log, plan):
-    """Returns the text of the script that a log tells."""
-    text = None if len(log) > script.MOST_BYTES else script_told(log, plan.offset)
-    if text is None:
-        raise Fault("script", "TooLong", 0)
-    return text
-
-
 def asked(words):
     """Returns what words ask, by name; numbers as such."""
-    if not words or words[0] not in CALLS:
-        raise NoCall
     plain, options = CALLS[words[0]]
-    values, found = named(words, options)
-    if not len(plain) - LEFT_OUT.get(words[0], 0) <= len(values) <= len(plain):
-        raise NoCall
+    names = {b"--" + it.lower().encode(): it for it in options}
+    values, found, rest = [], {}, iter(words[1:])
+    for word in rest:
+        option, equals, value = word.partition(b"=")
+        if option not in names:
+            values.append(word)
+        elif names[option] in FLAGS:
+            found[names[option]] = True
+        else:
+            found[names[option]] = value if equals else next(rest)
     found.update(zip(plain, values))
-    paths = [value for name, value in found.items() if name.isupper() and name not in LISTS]
-    if [*paths, *chain(*(found.get(name, []) for name in LISTS if name.isupper()))].count(b"-") > 1:
-        raise NoCall
-    found |= {it: number_of(found[it]) for it in NUMBERS if it in found}
-    if not 1 <= found.get("within", 1) < DAY or "script" in found and "log" not in found:
-        raise NoCall
-    return found
+    return found | {it: int(found[it]) for it in NUMBERS if it in found}
 
 
 # The comments above a line of a gathered table, its place and then its parts; how a refusal names
@@ -187,11 +136,6 @@ STALE_NOTE = (
     b"note: the tables or declarations may have changed since the certificate was made: "
     b"cronsafe make TABLE DECLS makes a new one\n"
 )
-# Beside a plan that decides nothing.
-NOTHING_NOTE = (
-    b"note: no two jobs can conflict, unless one still runs when it starts again: no exclusive group "
-    b"has two jobs, no job has mode skip, and all together fit into the capacity\n"
-)
 
 
 def warnings_of_settings(table, of):
@@ -201,23 +145,13 @@ def warnings_of_settings(table, of):
 
 
 def warnings_of(table, jobs):
-    """Returns what is told of two tables that were read well: settings, and a crontab that isn't one."""
-    told = b"warning: the command on line %d of the crontab begins with %s, as in a table with a "
-    told += b"user column: see cronsafe gather\n"
-    users = b"".join(told % it for it in users_in(table)[:1])
-    told = b"warning: the command on line %d of the crontab begins with %s, as in an anacrontab: see "
-    told += b"--anacrontab\n"
-    delays = [(it.line, words_of(it.text)[0]) for it in table.commands]
-    delay = b"".join(told % it for it in [it for it in delays if it[1].isdigit()][:1])
-    of_settings = warnings_of_settings(table, b"the crontab") + users + delay
-    return of_settings + warnings_of_settings(jobs, b"the anacrontab")
+    """Returns what is told of settings of two tables that were read well."""
+    of_crontab = warnings_of_settings(table, b"the crontab")
+    return of_crontab + warnings_of_settings(jobs, b"the anacrontab")
 
 
 def notes_of(plan):
-    """Returns what is told of a plan that is judged: what its declarations have twice, which entry
-    lacks a schedule, what it leaves out, what has the default, what is a guess, and that hardly
-    anything is decided.
-    """
+    """Returns what is told of a plan that is judged."""
     told = []
     if plan.doubled is not None:
         name = plan.doubled.encode()
@@ -238,7 +172,7 @@ def notes_of(plan):
         told.append(b"note: 1 longest time is a draft's guess\n")
     elif plan.guessed:
         told.append(b"note: %d longest times are a draft's guess\n" % plan.guessed)
-    return b"".join(told) + (NOTHING_NOTE if decides_nothing(plan) else b"")
+    return b"".join(told) + (NO_CONFLICT if decides_nothing(plan) else b"")
 
 
 def decides_nothing(plan):
@@ -251,9 +185,7 @@ def decides_nothing(plan):
 
 
 def places_of(text, table):
-    """Returns the place, the user and the names of the parts of each line of a gathered table, by its
-    number.
-    """
+    """Returns place, user and names of parts of each line of a gathered table, by its number."""
     if all(it.name != b"CRONSAFE_TABLE" for it in table.settings):
         return {}
     places, lines = {}, text.split(b"\n")
@@ -272,12 +204,10 @@ def notes_of_lines(named, text, table, head):
     return b"".join(told % (it.line, *places[it.line][:2], shown(it.text)) for it in placed)
 
 
-def notes_of_refusal(verdict, text, plan):
-    """Returns the places of the lines that a refusal names, the jobs that take a lock of which it
-    names the group, and if its certificate seems old.
-    """
+def notes_of_refusal(verdict, text):
+    """Returns the places of the lines that a refusal names, and if its certificate seems old."""
     places = notes_of_lines(verdict, text, crontab.read_crontab(text), b"note: ")
-    return places + taker_notes(verdict, plan) + (STALE_NOTE if verdict.startswith(STALE) else b"")
+    return places + (STALE_NOTE if verdict.startswith(STALE) else b"")
 
 
 class Call:
@@ -344,61 +274,6 @@ class Call:
             raise Fault("declarations", "BadHours")
         return 0, day_answer(*self.read_tables(found), day, found["max"], hours)
 
-    def lint(self, found):
-        """Tells whether there is a fault; all files are read before one is looked at."""
-        if any(it.lower() not in ODD for it in [*found.get("only", []), *found.get("except", [])]):
-            raise NoCall
-        for role in ("TABLE", "ANACRONTAB", "DECLS", "ZONE"):
-            if role in found:
-                self.bytes_of(found[role])
-        if "ZONE" in found and not self.bytes_of(found["ZONE"]).startswith(b"TZif"):
-            return 3, None
-        try:
-            tables = self.read_tables(found)
-            if "DECLS" in found:
-                read_plan(self.bytes_of(found["DECLS"]), *tables)
-        except Fault:
-            return 3, None
-        finally:
-            self.warned = b""
-        return None, None
-
-    def look_at_root(self, path):
-        """Looks for a root folder, below which there is nothing: all files are in one folder."""
-        if path != b".":
-            is_file = path in self.files
-            raise Unread(path, b"it is no folder" if is_file else b"there is no such file")
-        self.warned = b"note: there are no tables below %s\n" % path
-
-    def gather(self, found):
-        """Gathers the tables, each of which is read once those before it had no fault."""
-        if not found:
-            raise NoCall
-        if "root" in found:
-            self.look_at_root(found["root"])
-            return 1, b""
-        system = (system_source(it, self.bytes_of(it)) for it in found.get("SYSTEM", []))
-        users = (user_source(it, self.bytes_of(it)) for it in found.get("USER", []))
-        return 0, gathered(self.warned_of(chain(system, users)))
-
-    def warned_of(self, sources):
-        """Yields the sources, and warns of each, once it has been gathered, of settings, and of users
-        where there are none.
-        """
-        told = b"warning: the command on line %d of %s begins with %s, as in a system table: "
-        none = b"warning: the user on line %d of %s is %s, as a command in a user's table: "
-        for it in sources:
-            path = shown(it.path)
-            yield it
-            table = table_of(it)
-            self.warned += warnings_of_settings(table, path)
-            if it.user is None:
-                for line, user in no_users_in(table)[:1]:
-                    self.warned += none % (line, path, shown(user)) + b"see --user\n"
-            else:
-                for line, user in users_in(table)[:1]:
-                    self.warned += told % (line, path, shown(user)) + b"see --system\n"
-
     def draft(self, found):
         self.look_at_max(found.get("max", 60))
         self.read_tables(found)
@@ -424,8 +299,7 @@ class Call:
         verdict = rules.verdict(plan, said)
         if verdict == b"safe\n":
             return 0, verdict
-        self.warned += notes_of_refusal(verdict, self.bytes_of(found["TABLE"]), plan)
-        self.warned += overload_notes(verdict, plan, said)
+        self.warned += notes_of_refusal(verdict, self.bytes_of(found["TABLE"]))
         return 1, verdict
 
     def replay(self, found):
@@ -437,12 +311,8 @@ class Call:
             self.look_at_max(longest)
             plan = plain_plan(longest, *tables)
         text = self.bytes_of(found["SCRIPT"])
-        if "log" in found:
-            text = told_by(text, plan)
-        elif "judge" in found and text.startswith(b"unsafe: "):
+        if "judge" in found and text.startswith(b"unsafe: "):
             text = b"#" + text[1:]
-        if "script" in found:
-            return 0, text
         return replay_answer(plan, script.read_script(text, plan), "judge" in found)
 
     def answer(self):
@@ -456,8 +326,6 @@ class Call:
         except Unread as unread:
             told = b"cronsafe: can't read %s: %s\n" % unread.args
             return Answer(6, b"", self.warned + told)
-        except NoCall:
-            return Answer(4, b"", None)
 
 
 def answer_of(words, files, stdin=b"", is_judged=True):

@@ -3,9 +3,10 @@
 
   tests/model/compare_cases.py [NAME..]   all cases, those of a subcommand, or those named
 
-Read are the cases of `day`, `check`, `judge`, `make`, `replay`, `lint`, `draft` and `gather`, but
-for those of help. Where the wanted answer is one of what is read, the reading has to answer the same: status
-and both outputs. Where it comes later, all has to read well, with the wanted warnings and notes.
+Read are the cases of `day`, `check`, `judge`, `make`, `advise`, `room`, `replay` and `draft`, but
+for those of help, of words that are no call, and of logs. Where the wanted answer is one of what is
+read, the reading has to answer the same: status and both outputs. Where it comes later, all has to
+read well, with the wanted warnings and notes.
 
 Judged are certificates; the reading of `check` has to give the whole answer, its verdict too:
   of `check`   all cases but those that want help or say that the words are no call
@@ -17,15 +18,15 @@ No program is run. Needs Python 3 alone.
 """
 import sys
 from functools import partial
-from pathlib import Path
 
 sys.dont_write_bytecode = True
 # In place of the folder of this script, whose modules have names of Python's own.
-sys.path[0] = str(Path(__file__).resolve().parent.parent)
+sys.path[0] += "/.."
 
 from cases import cases_of  # noqa: E402
 from harness import Fault, count, end_with, words_of  # noqa: E402
-from model.call import CALLS, Answer, agrees, answer_of, asks_help, words_of_check  # noqa: E402
+from model.call import CALLS, Answer, agrees, answer_of, as_read, asks_help  # noqa: E402
+from model.call import words_of_check  # noqa: E402
 
 SAFE = b"safe\n"
 # What standard error says first; what it says after the warnings where the text of a certificate
@@ -51,7 +52,7 @@ def is_met(wanted, got):
 
 
 def look_at_reading(case):
-    wanted = Answer(case.status, case.stdout, case.stderr)
+    wanted = Answer(case.status, case.stdout, as_read(case.stderr))
     got = answer_of(case.words, case.files, case.stdin, is_judged=False)
     if not is_met(wanted, got):
         raise Fault(f"\n  wanted: {wanted}\n  read:   {got}")
@@ -70,9 +71,9 @@ def is_judged(case):
 
 
 def look_at_verdict(case):
-    wanted = Answer(case.status, case.stdout, case.stderr)
+    wanted = Answer(case.status, case.stdout, as_read(case.stderr))
     if case.words[0] != b"check" and case.status == 0:
-        wanted = Answer(0, SAFE, lines_with((WARNING, NOTE), case.stderr))
+        wanted = Answer(0, SAFE, lines_with((WARNING, NOTE), wanted.err))
     files = {**case.files, b"made": case.stdout}
     got = answer_of(words_of_check(case.words), files, case.stdin)
     if got != wanted:
@@ -81,8 +82,8 @@ def look_at_verdict(case):
 
 def main():
     cases = cases_of(words_of(__doc__).names)
-    read = [it for it in cases if it.name.split("/")[0].encode() in CALLS]
-    read = [it for it in read if not asks_help(it.words)]
+    read = [it for it in cases if it.name.split("/")[0].encode() in CALLS and it.status != 4]
+    read = [it for it in read if not asks_help(it.words) and b"--log" not in it.words]
     tests = [(f"reading of {it.name}", partial(look_at_reading, it)) for it in read]
     judged = filter(is_judged, cases)
     tests += [(f"verdict of {it.name}", partial(look_at_verdict, it)) for it in judged]

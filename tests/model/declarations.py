@@ -88,10 +88,6 @@ def when(value):
     return [commands[0].schedule]
 
 
-def hours(value):
-    return tuple(numbers_of(value, 2))
-
-
 def list_of(read):
     """Returns the reader of lists whose items it reads."""
     return lambda value: [read(item) for item in items_of(value)]
@@ -120,19 +116,12 @@ def members(value, shape):
     return found
 
 
-def part(value):
-    return Part(**members(value, PART))
+def object_of(made, shape):
+    """Returns the reader of objects of a shape, of whose members something is made."""
+    return lambda value: made(**members(value, shape))
 
 
-CRON = {**LINE, "mode": (mode, "none"), "parts": (list_of(part), []), **COMMON}
-
-
-def group(value):
-    return Group(**members(value, GROUP))
-
-
-def default_entry(value):
-    return Default(**members(value, DEFAULT))
+CRON = {**LINE, "mode": (mode, "none"), "parts": (list_of(object_of(Part, PART)), []), **COMMON}
 
 
 def name_in(found):
@@ -153,20 +142,16 @@ def anacron_entry(value):
     return Entry(found.pop("id"), **found)
 
 
-def left_out_line(value):
-    return name_in(members(value, LINE))
-
-
 DECLARATIONS = {
     "capacity": (whole, REQUIRED),
     "offset": (offset, 0),
-    "hours": (hours, (0, DAY)),
+    "hours": (lambda value: tuple(numbers_of(value, 2)), (0, DAY)),
     "pass": (whole, None),
-    "default": (default_entry, None),
-    "groups": (list_of(group), []),
+    "default": (object_of(Default, DEFAULT), None),
+    "groups": (list_of(object_of(Group, GROUP)), []),
     "cron": (list_of(cron_entry), []),
     "anacron": (list_of(anacron_entry), []),
-    "left_out": (list_of(left_out_line), []),
+    "left_out": (list_of(lambda value: name_in(members(value, LINE))), []),
 }
 
 

@@ -1,14 +1,10 @@
 """Random plans: the bytes of a crontab, of declarations and perhaps of an anacrontab, by names."""
 import json
 from functools import partial
+from pathlib import Path
 
 # day of the month, month, weekday
-DAYS = [
-    ("*", "*", "*"), ("*", "*", "*"), ("*", "*", "*"), ("*", "*", "1-5"), ("*", "*", "0"),
-    ("*", "*", "3,6"), ("1", "*", "*"), ("28", "2", "*"), ("29", "2", "*"), ("1", "3", "*"),
-    ("13", "*", "5"), ("*/2", "*", "1"), ("31", "*", "*"), ("30", "2", "*"), ("*", "jan", "*"),
-    ("1,15", "*", "*"), ("1-7", "*", "mon"), ("*", "12", "sun"),
-]
+DAYS = Path(__file__).with_name("days").read_text().splitlines()
 MODES = {
     "no waiting": ["none", "none", "skip", "try"],
     "waiting": ["none", "skip", "try", "wait", "wait"],
@@ -81,7 +77,7 @@ def random_plan(rng, modes):
     """Two to six lines, due on all sorts of days, and up to three jobs of catch-up."""
     count, often = rng.choice([1, 1, 2, 3]), rng.sample(range(1440), 8)
     lines = range(rng.randint(2, 6))
-    schedules = (f"{minute_and_hour(rng, often)} {' '.join(rng.choice(DAYS))}" for _ in lines)
+    schedules = (f"{minute_and_hour(rng, often)} {rng.choice(DAYS)}" for _ in lines)
 
     def longest():
         return rng.randint(1, rng.choice([20, 90, 90, 600, 4320]))

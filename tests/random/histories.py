@@ -3,7 +3,6 @@ from model.calendar import DAY
 from model.faults import Fault
 from model.replay import Refused, Rules, State, breach, first_state
 from model.script import Event, Script, Start, read_script, script_text
-from model.story import broken_by, story_text
 
 # More states than that aren't looked at.
 MOST_STATES = 300_000
@@ -16,15 +15,12 @@ class TooMany(Exception):
 
 
 def shown_by(plan, text):
-    """Returns what a script breaks first, as `judge` tells it, or why it shows nothing.
-
-    Before the script stand the comments of its story.
-    """
+    """Returns what a script breaks first, as `judge` tells it, or why it shows nothing."""
     try:
         script = read_script(text, plan)
     except Fault as fault:
         return f"a script with a fault: {fault.text().decode()}"
-    rules, state, broken = Rules(plan), first_state(script), None
+    rules, state, broken = Rules(plan), first_state(script), ""
     for event in script.events:
         try:
             state, reply = rules.take(state, event)
@@ -32,12 +28,13 @@ def shown_by(plan, text):
             return f"a history in which line {event.line} is refused: {refused}"
         if rules.late_runs(state):
             return f"a history in which a run goes on beyond its time at line {event.line}"
-        broken = broken or broken_by(plan, state, event, reply)
+        broken = broken or breach(plan, state, event, reply)
     if not broken:
         return "a history that breaks nothing"
-    if text != story_text(plan, script) + script_text(plan, script).encode():
-        return "a script that isn't written as scripts are, or another story"
-    return f"unsafe: {broken.line}"
+    lines = [it for it in text.splitlines(True) if not it.startswith(b"#")]
+    if b"".join(lines) != script_text(plan, script).encode():
+        return "a script that isn't written as scripts are"
+    return broken
 
 
 def events_at(state):
@@ -89,7 +86,7 @@ def breaking_script(plan, first, last):
     while left:
         state = left.pop()
         for event, after, reply in next_states(rules, state, last):
-            if broken_by(plan, after, event, reply):
+            if breach(plan, after, event, reply):
                 events = [event]
                 while came[state] is not None:
                     event, state = came[state]

@@ -1,31 +1,22 @@
 """A call over files, what the second reading answers to it, and whether a program does so too."""
 import os
-import re
 import resource
 from collections import namedtuple
 
 from harness import Fault, called, folder_with
-from model.call import STALE_NOTE, Answer, agrees, answer_of
+from model.call import STALE_NOTE, Answer, agrees, answer_of, as_read
 from model.declarations import GREATEST_MAX
-from model.draft import is_draft, is_update, unlocked_lines
 
 START = b"start 2024-01-01 00:00 up\n"
 JOB = b"0 1 * * * a\n"
 OPTIONS = (b"anacrontab", b"declarations")
 SECONDS = 10
 MEMORY = 1 << 30
-# What begins the verdict that a window isn't listed.
-MISSED = b"refused 5 WindowMissing: "
-# What begins the warning of a lock that a draft lacks.
-UNLOCKED = re.compile(
-    rb"^warning: the command on line (\d+) of the crontab is declared without a lock: ", re.MULTILINE
-)
 # Of the drafts of so many calls one is made.
 DRAFTS_OF_ONE = 3
 
-# What a call is about, its words and its files; and whether the answer to it has to be that a
-# window isn't listed, where that is known before.
-Call = namedtuple("Call", "what words files is_missed", defaults=(None,))
+# What a call is about, its words and its files.
+Call = namedtuple("Call", "what words files")
 
 
 def call_of(what, kind, text, beside):
@@ -45,23 +36,18 @@ def call_of(what, kind, text, beside):
     return Call(what, words, files)
 
 
-def lints_and_drafts(calls):
-    """Yields lint of the files of each call, and some drafts or updates; each such call once."""
+def drafts(calls):
+    """Yields drafts or updates of the files of some calls; each such call once."""
     seen = set()
     for at, it in enumerate(calls):
         files = {name: text for name, text in it.files.items() if name != b"script"}
-        more = [b"--anacrontab", b"anacrontab"] if b"anacrontab" in files else []
-        declared = [b"declarations"] if b"declarations" in files else []
-        made = [Call(f"lint, {it.what}", [b"lint", b"crontab", *declared, *more], files)]
-        if at % DRAFTS_OF_ONE == 0:
-            words = [b"draft", b"crontab", b"--max", b"%d" % GREATEST_MAX, *more]
-            update = [b"--update", b"declarations"] if declared else []
-            made.append(Call(f"draft, {it.what}", words + update, files))
-        for call in made:
-            key = tuple(call.words), tuple(sorted(files.items()))
-            if key not in seen:
-                seen.add(key)
-                yield call
+        words = [b"draft", b"crontab", b"--max", b"%d" % GREATEST_MAX]
+        words += [b"--anacrontab", b"anacrontab"] if b"anacrontab" in files else []
+        words += [b"--update", b"declarations"] if b"declarations" in files else []
+        key = tuple(sorted(files.items()))
+        if at % DRAFTS_OF_ONE == 0 and key not in seen:
+            seen.add(key)
+            yield Call(f"draft, {it.what}", words, files)
 
 
 def limit():
@@ -75,7 +61,8 @@ def run(program, call):
     with folder_with(call.files) as folder:
         try:
             given = {"seconds": SECONDS, "preexec_fn": limit}
-            return Answer(*called(program, call.words, folder, **given))
+            status, out, err = called(program, call.words, folder, **given)
+            return Answer(status, out, as_read(err))
         except Fault:
             return Answer(None, b"", b"")
 
@@ -88,37 +75,15 @@ def is_met(wanted, got):
     return agrees(wanted, got)
 
 
-def is_drawn_up(call, text):
-    """Returns whether a text is the draft, or the update, that a call asks for."""
-    if b"--update" in call.words:
-        return is_update(text, call.files, call.files[b"declarations"], GREATEST_MAX)
-    return is_draft(text, call.files, GREATEST_MAX)
-
-
-def is_warned_of(call, got):
-    """Returns whether a draft warns of the locks that it lacks; of an update nothing is told here."""
-    told = [int(it[1]) for it in UNLOCKED.finditer(got.err)]
-    return b"--update" in call.words or told == unlocked_lines(got.out, call.files)
-
-
 def looked_at(program, call):
     """Returns what differs in a call, as text; nothing where the answers are the same."""
     wanted, got = answer_of(call.words, call.files), run(program, call)
-    is_missed, wrong = (wanted.out or b"").startswith(MISSED), []
-    if not is_met(wanted, got):
-        wrong.append("it is answered otherwise")
-    if call.is_missed not in (None, is_missed):
-        wrong.append(f"a window has to be missing: {call.is_missed}")
-    if call.words[0] == b"draft" and got.status == 0 and not is_drawn_up(call, got.out):
-        wrong.append("this is no draft of its tables, or no update of its declarations")
-    elif call.words[0] == b"draft" and got.status == 0 and not is_warned_of(call, got):
-        wrong.append("the locks that this draft lacks are told otherwise")
-    if not wrong:
+    if is_met(wanted, got):
         return ""
     files = [f"{it.decode()} {text[:300]!r}" for it, text in call.files.items()]
     sides = [f"wanted {printed(wanted)}", f"got {printed(got)}"]
     words = " ".join(os.fsdecode(it) for it in call.words)
-    return "\n  ".join([f"{call.what}: {', '.join(wrong)}", words, *files, *sides])
+    return "\n  ".join([f"{call.what} is answered otherwise", words, *files, *sides])
 
 
 def printed(answer):

@@ -1,13 +1,14 @@
-"""Scripts of random events over random small plans, whether an event may come or not; and a week.
+"""Scripts of random events over random small plans, whether an event may come or not.
 
 Events that get on with a history are likelier: what is pending, waits or runs is known from the
 second reading, which plays each script as it is made. What comes of an event comes up often. In
-the week no event is refused, and neither is one in the beginnings of histories that are judged.
+the beginnings of histories that are judged no event is refused.
 """
 import json
 from collections import Counter
+from pathlib import Path
 
-from model.calendar import DAY, minute_text
+from model.calendar import DAY
 from model.declarations import MODES, plan_of
 from model.replay import Refused, Rules, first_state
 from model.script import Event, Script, Start, script_text
@@ -26,32 +27,9 @@ WEIGHTS = {"begin": 22, "minute": 12, "end": 14, "got": 6, "catch": 5, "down": 1
 # By how many minutes the clock goes on.
 AHEAD = {"minute": (0, 2, *[1] * 10), "up": (-1, 0, 0, 1, 2, 3, 3, DAY, 2 * DAY, 3 * DAY)}
 # What may come of events, by their kind, and a begin by its job's mode; and how often each does.
-OUTCOMES = {
-    "begin": ("NotDue", "NotUp"), "begin none": ("started",), "begin skip": ("started", "skipped"),
-    "begin try": ("started", "skipped"), "begin wait": ("started", "waiting"),
-    "begin shared": ("started", "waiting"),
-    "got": ("NotUp", "NotWaiting", "LockHeld", "started"),
-    "catch": ("NotUp", "NotCatchable", "started"),
-    "end": ("NotRunning", "ended in time", "ended late"),
-    "minute": ("NotUp", "WrongMinute", "NotSettled", "clock"),
-    "down": ("NotUp", "went"), "up": ("AlreadyUp", "WrongMinute", "came"),
-}
+OUTCOMES = Path(__file__).parents[1].joinpath("outcomes").read_text().splitlines()
+OUTCOMES = [tuple(it.split(": ")) for it in OUTCOMES]
 LEAST = 20
-SERVER = b"""\
-*/15 * * * * /usr/local/bin/check-disks
-17 * * * * /usr/sbin/logrotate /etc/logrotate.conf
-30 2 * * * /usr/local/sbin/backup /srv
-0 3 * * 0 find /var/tmp -mtime +30 -delete
-"""
-SERVER_DECLARED = b"""{"capacity": 4, "groups": [{"name": "disk", "exclusive": true}], "cron": [
-{"line": 1, "max": 5}, {"line": 2, "max": 10},
-{"line": 3, "max": 60, "group": "disk", "mode": "wait"},
-{"line": 4, "max": 60, "group": "disk", "mode": "wait"}]}
-"""
-# For how many minutes the command of a line runs, or waits and runs.
-TAKES = {1: 1, 2: 2, 3: 40, 4: 35}
-# 2024-03-11 00:00, and 02:40 and 05:20 of the third day.
-MONDAY, DOWN, UP = 28_501_920, 2 * DAY + 160, 2 * DAY + 320
 
 
 def cron_entry(chance, line):
@@ -133,42 +111,8 @@ class History:
             self.counts[f"begin {self.plan.jobs[event.job].mode}", outcome] += 1
 
 
-def is_due(line, minute):
-    in_hour, in_day = minute % 60, minute % DAY
-    return (in_hour % 15 == 0, in_hour == 17, in_day == 150, minute == 6 * DAY + 180)[line - 1]
-
-
-def lines_at(minute):
-    """Yields the lines of a minute of the week: its runs end, one gets its lock, others begin."""
-    yield f"minute {minute_text(MONDAY + minute)}"
-    for line, takes in TAKES.items():
-        if minute >= takes and is_due(line, minute - takes):
-            yield f"end line {line} {minute_text(MONDAY + minute - takes)}"
-    if is_due(4, minute - 10):
-        yield f"got line 4 {minute_text(MONDAY + minute - 10)}"
-    for line in TAKES:
-        if is_due(line, minute):
-            yield f"begin line {line}"
-
-
-def week():
-    """Yields the script of a week, line by line, with an outage in which the backup ends."""
-    yield f"start {minute_text(MONDAY - 1)} up"
-    for minute in range(7 * DAY):
-        if not DOWN < minute <= UP:
-            yield from lines_at(minute)
-        if minute == DOWN:
-            yield "down"
-            yield f"end line 3 {minute_text(MONDAY + 2 * DAY + 150)}"
-        if minute == UP:
-            yield f"up {minute_text(MONDAY + minute)}"
-
-
 def histories(chance):
-    """Yields the calls that replay the week and random scripts."""
-    text = "".join(f"{it}\n" for it in week()).encode()
-    beside = {b"crontab": SERVER, b"declarations": SERVER_DECLARED}
-    yield call_of("a week of a server", b"script", text, beside)
+    """Yields the calls that replay random scripts."""
     counts = Counter()
     for number in range(PLANS):
         files = files_of(chance)
@@ -181,6 +125,5 @@ def histories(chance):
         text = script_text(history.plan, judged).encode()
         call = call_of(f"judged history {number}", b"script", text, files)
         yield call._replace(words=[*call.words, b"--judge"])
-    pairs = [(kind, outcome) for kind, all_of in OUTCOMES.items() for outcome in all_of]
-    if rare := [it for it in pairs if counts[it] < LEAST]:
+    if rare := [it for it in OUTCOMES if counts[it] < LEAST]:
         raise ValueError(f"random histories hardly try {rare}")

@@ -1,4 +1,4 @@
-"""Declarations that name lines by number and command, leave lines out, and have a default."""
+"""Declarations that name lines by number and command, and leave lines out."""
 import json
 
 from hostile_calls.calls import Call
@@ -11,21 +11,16 @@ LINES = (b"0 1 * * * a", b"0 2 * * * a", b"0 1 * * * b", b"@reboot a", b"# a", b
 COMMANDS = ("a", "b", "c", "a ", "", "a\ufffd")
 PARTS = (("line",), ("command",), ("command",), ("line", "command"))
 NAMED = 2_000
-ANACRONTAB = b"1 0 x y\n"
 # Signs of commands, and how JSON may write each.
 SHORT = dict(zip('"\\/\b\f\r\t', ('\\"', "\\\\", "\\/", "\\b", "\\f", "\\r", "\\t")))
 SIGNS = (*SHORT, *"\x01\x1f\x7f\x85 %é€\u2028\ufeff\uffff")
 
 
-def judge_of(what, lines, declared, anacrontab=None):
+def judge_of(what, lines, declared):
     """Returns the call that judges lines of a crontab; `declared` is a value or its text."""
     text = declared if isinstance(declared, bytes) else json.dumps(declared).encode()
     files = {b"crontab": b"".join(it + b"\n" for it in lines), b"declarations": text}
-    words = [b"judge", b"crontab", b"declarations"]
-    if anacrontab is not None:
-        files[b"anacrontab"] = anacrontab
-        words += [b"--anacrontab", b"anacrontab"]
-    return Call(what, words, files)
+    return Call(what, [b"judge", b"crontab", b"declarations"], files)
 
 
 def any_name(chance, lines):
@@ -79,42 +74,6 @@ def commands():
     yield from named("a command and the bytes that it has", LINES[-1], b'"a\xff"')
 
 
-def left_out():
-    """Yields tables of which all lines are left out, all but one, or one twice."""
-    for count in (1, 2, 63, 255, 256):
-        lines = [HEAD + b"a%d" % at for at in range(1, count + 1)]
-        numbers = [{"line": at} for at in range(1, count + 1)]
-        texts = [{"command": f"a{at}"} for at in range(1, count + 1)]
-        for names in (numbers, texts, [*numbers[:-1], texts[-1]]):
-            for out in (names, names[::-1], names[1:], [*names, numbers[-1]], [*names, texts[0]]):
-                for more in ({}, {"default": {"max": 1}}):
-                    said = {"capacity": 64, "left_out": out, **more}
-                    what = f"{len(out)} of {count} lines left out, {list(more)}"
-                    yield judge_of(what, lines, said)
-                    yield judge_of(f"{what}, of two tables", lines, said, ANACRONTAB)
-
-
-def defaults():
-    """Yields defaults at the edge of what they may be, beside entries for some jobs."""
-    lines, entries = [HEAD + b"a", HEAD + b"b"], [{"line": 1, "max": 1}, {"line": 2, "max": 1}]
-    longest, weights = (-1, 0, 1, 4_320, 4_321, 2**64 - 1, 2**64, 1.0, None, "1"), (0, 1, 64, 65)
-    found = [{"max": it} for it in longest] + [{"max": 1, "weight": it} for it in (*weights, "1")]
-    found += [{"max": 0, "weight": 0}, {"weight": 1}, {"max": 1, "mode": "none"}]
-    for default in found:
-        for count in (0, 1, 2):
-            for anacron in ([], [{"id": "x", "max": 1}], [{"id": "x", "max": 0}]):
-                said = {"capacity": 64, "default": default, "anacron": anacron}
-                what = f"a default of {default} beside {count} entries and {anacron}"
-                yield judge_of(what, lines, {**said, "cron": entries[:count]}, ANACRONTAB)
-    for count in (1, 2, 256):
-        lines = [HEAD + b"a%d" % at for at in range(count)]
-        said = {"capacity": 64, "default": {"max": 1}}
-        yield judge_of(f"a default of {count} jobs", lines, said)
-        yield judge_of(f"a default of {count} jobs and one more", lines, said, ANACRONTAB)
-
-
 def names(chance):
     yield from random_names(chance)
     yield from commands()
-    yield from left_out()
-    yield from defaults()

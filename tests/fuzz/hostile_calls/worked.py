@@ -4,7 +4,7 @@ from collections import namedtuple
 
 from cases import cases_of
 from model import certificate
-from model.call import NoCall, answer_of, asked, asks_help, words_of_check
+from model.call import answer_of, asked, asks_help, words_of_check
 from model.faults import Fault
 
 from hostile_calls.calls import call_of
@@ -31,19 +31,17 @@ LONG, PREFIXES_OF_A_LONG_ONE = 600, 100
 LONG_CERTIFICATE, PREFIXES_OF_A_LONG_CERTIFICATE = 122, 6
 BYTES = b"\0\t\n\r \"%',-./01:=@\\a\xff"
 BYTES_OF_CERTIFICATES = BYTES + b"29[]{}eE+"
-# Of so many changes one is made of certificates too, and one of a random plan: these take longer.
+# Of so many changes one is made of certificates too: these take longer.
 CHANGES_OF_ONE = 5
 
 # What an input is, its kind and its bytes, and the files by their kinds that it needs beside it.
 Worked = namedtuple("Worked", "what kind text beside")
 
 
-def found_in(files, words, kinds):
+def found_in(case, words, kinds):
     """Returns the files that words name, by their kinds."""
-    try:
-        found = {} if asks_help(words) else asked(words)
-    except NoCall:
-        return {}
+    files = {**case.files, b"-": case.stdin, b"made": case.stdout}
+    found = {} if case.status == 4 or asks_help(words) else asked(words)
     return {kinds[role]: files[found[role]] for role in kinds if found.get(role) in files}
 
 
@@ -59,7 +57,7 @@ def worked_inputs():
     """Returns each input of the cases once, with what the first fit case has beside it."""
     found = {}
     for case in cases_of(SUBCOMMANDS):
-        inputs = found_in({**case.files, b"-": case.stdin}, case.words, KINDS)
+        inputs = found_in(case, case.words, KINDS)
         for kind, text in inputs.items():
             beside = {name: inputs[name] for name in BEFORE[kind] if name in inputs}
             it = Worked(f"{kind.decode()} of {case.name}", kind, text, beside)
@@ -70,8 +68,7 @@ def worked_inputs():
 
 def certificate_of(case):
     """Returns the certificate of a case with what is beside it; none where it doesn't read well."""
-    files = {**case.files, b"-": case.stdin, b"made": case.stdout}
-    inputs = found_in(files, words_of_check(case.words), {**KINDS, "CERT": b"certificate"})
+    inputs = found_in(case, words_of_check(case.words), {**KINDS, "CERT": b"certificate"})
     text = inputs.pop(b"certificate", b"")
     try:
         certificate.read(text)

@@ -7,8 +7,9 @@ use Rattle.cs_ruling.specs.declared.answer.Answer.{Answer}
 use Rattle.cs_ruling.specs.declared.answer.Answer.TheVariants as answers
 use Rattle.cs_files.specs.Trouble.{IsHonest}
 use Rattle.cronsafe.specs.Call.{Answers}
-use Rattle.cronsafe.specs.Turn.{RanOutOn}
-use Rattle.cs_files.specs.Ending.{Ends, RunsOutBehind, Sink}
+use Rattle.cronsafe.specs.Turn.{WarnsOn}
+use Rattle.cs_files.specs.Asked.{Tells as TellsFirst}
+use Rattle.cs_files.specs.Ending.{Ends, RunsOut, Sink}
 use Rattle.cs_args.specs.Asked.{asked_stop}
 use Rattle.cs_ask.specs.Reloading.{Reloads}
 use Rattle.cs_serve.specs.Serve.{Serves}
@@ -30,19 +31,18 @@ CarriesOut (answers.Tells words) out-old out-new err-old err-new status =
     Tells words.stamps.now out-old out-new err-old err-new status
 
 -- the words are answered so, and the answer is carried out
-abbrev pub Carries : List Text → (List ℕ → Option (List ℕ)) → Failed → Failed → Reads
+abbrev pub Carries : List Text → (List ℕ → Option (List ℕ)) → List ℕ → Failed → Failed → Reads
     → Answer → Sink → Sink → Sink → Sink → ℕ → Type 0
-Carries words files before failed reads answer out-old out-new err-old err-new status =
-    Answers words files before failed answer
+Carries words files w before failed reads answer out-old out-new err-old err-new status =
+    Answers words files w before failed answer
     × IfEnds (IsHonest failed reads) answer
     × CarriesOut answer out-old out-new err-old err-new status
 
--- the words are answered, or memory ran out, behind what is to be warned of by then
+-- what is to be warned of is written if it can be, and then the words are answered, or memory ran out
 abbrev pub Runs : List Text → (List ℕ → Option (List ℕ)) → Failed → Failed → Reads
     → Reads → Sink → Sink → Sink → Sink → ℕ → Type 0
 Runs words files before failed reads-old reads-new out-old out-new err-old err-new status =
-    ((answer : Answer)
-    × Carries words files before failed reads-new answer out-old out-new err-old err-new
-    status)
-    ⊎ ((warnings : Option (List ℕ)) × RanOutOn words files before reads-old reads-new warnings
-    × RunsOutBehind warnings out-old out-new err-old err-new status)
+    (warned : Sink) × TellsFirst (λ w. WarnsOn words files before reads-old reads-new w
+    × (((answer : Answer)
+    × Carries words files w before failed reads-new answer out-old out-new warned err-new status)
+    ⊎ RunsOut out-old out-new warned err-new status)) err-old warned

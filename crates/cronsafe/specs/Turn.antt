@@ -1,10 +1,10 @@
--- Which files a call reads, in which order, and what is to be warned of where memory runs out.
-use Rattle.std.specs.Prelude.{◌≡◌, ◌⊎◌, ℕ, List, [], Option, None}
+-- Which files a call reads, in which order, and what is warned of before it is answered.
+use Rattle.std.specs.Prelude.{◌≡◌, ◌⊎◌, ℕ, List, [], Option}
 use Rattle.clap.specs.Words.{Text}
 use Rattle.cs_args.specs.Asked.{Asking, Check, Day, Help, Judge, Make, Replay, Run}
 use Rattle.cs_args.specs.CommandLine.{Asks}
 use Rattle.cs_io.specs.Files.{AreReadInTurn, Failed, Reads}
-use Rattle.cs_files.specs.RanOut.{IsUnwarned, IsWarned}
+use Rattle.cs_files.specs.Asked.{Warns}
 use Rattle.cs_files.specs.Turn.{check_paths, judge_paths, replay_paths, table_paths}
 
 -- the files of what is asked are read one after the other, each in its turn, and nothing else is
@@ -22,21 +22,19 @@ abbrev pub ReadsInTurn : List Text → Reads → Reads → Type 0
 ReadsInTurn words old new =
     ((a : Asking) × Asks words a × ReadsAsked a old new) ⊎ (new ≡ old)
 
--- what is to be warned of the tables of what was asked
-abbrev pub IsWarnedOf : Asking → (List ℕ → Option (List ℕ)) → Failed → Reads → Reads
-    → Option (List ℕ) → Type 0
-IsWarnedOf (Day a) files = IsWarned files a.table a.anacrontab
-IsWarnedOf (Replay a) files = IsWarned files a.table a.anacrontab
-IsWarnedOf (Check a) files = IsWarned files a.table a.anacrontab
-IsWarnedOf (Run a) files = IsWarned files a.check.table a.check.anacrontab
-IsWarnedOf (Judge a) files = IsWarned files a.table a.anacrontab
-IsWarnedOf (Make a) files = IsWarned files a.judge.table a.judge.anacrontab
-IsWarnedOf Help files = λ before old new warnings. ⊥
-IsWarnedOf other files = λ before. IsUnwarned []
+-- what is warned of the tables of what was asked
+abbrev pub WarnsOf : Asking → (List ℕ → Option (List ℕ)) → Failed → Reads → Reads → List ℕ → Type 0
+WarnsOf (Day a) files = Warns files a.table a.anacrontab
+WarnsOf (Replay a) files = Warns files a.table a.anacrontab
+WarnsOf (Check a) files = Warns files a.table a.anacrontab
+WarnsOf (Run a) files = Warns files a.check.table a.check.anacrontab
+WarnsOf (Judge a) files = Warns files a.table a.anacrontab
+WarnsOf (Make a) files = Warns files a.judge.table a.judge.anacrontab
+WarnsOf Help files = λ before old new w. ⊥
+WarnsOf other files = λ before old new w. w ≡ []
 
--- memory ran out on words: on what they ask, or before anything was read
-abbrev pub RanOutOn : List Text → (List ℕ → Option (List ℕ)) → Failed → Reads → Reads
-    → Option (List ℕ) → Type 0
-RanOutOn words files before old new warnings =
-    ((a : Asking) × Asks words a × IsWarnedOf a files before old new warnings)
-    ⊎ ((new ≡ old) × (warnings ≡ None))
+-- and so of what the words ask; else nothing
+abbrev pub WarnsOn : List Text → (List ℕ → Option (List ℕ)) → Failed → Reads → Reads → List ℕ → Type 0
+WarnsOn words files before old new w =
+    ((a : Asking) × Asks words a × WarnsOf a files before old new w)
+    ⊎ ((new ≡ old) × (w ≡ []))

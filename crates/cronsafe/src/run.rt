@@ -9,12 +9,12 @@ ghost use Rattle.cronsafe.specs.Run.{CarriesOut, Runs};
 use crate::responding::respond;
 use cs_ask::{reload, stop, tell_status};
 use cs_device::Runner;
-use cs_files::{Status, finish, run_out_behind};
+use cs_files::{Status, finish, run_out};
 use cs_io::{Inputs, Output};
 use cs_machine::RunnerSetup;
 use cs_ruling::Answer;
 use cs_serve::{Streams, serve};
-use std::alloc::Global;
+use std::alloc::{AllocError, Global};
 use std::convert::AsStr;
 use std::fs::File;
 use std::io::Write;
@@ -97,8 +97,8 @@ pub(crate) fn run_words<
     ensures turn { ReadsInTurn (map S.text words.now)
         (I.reads inputs.old) (I.reads inputs.new) }
 {
-    match respond(rt, alloc, words, inputs) {
+    match respond(rt, alloc, words, inputs, err) {
         Ok(answer) => carry_out(rt, alloc, answer, streams, out, err, new_runner).code(),
-        Err(ran_out) => run_out_behind(&ran_out, err).code(),
+        Err(AllocError) => run_out(err).code(),
     }
 }

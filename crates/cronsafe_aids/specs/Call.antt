@@ -1,5 +1,5 @@
 -- What is answered to the words of a call.
-use Rattle.std.specs.Prelude.{◌⊎◌, ℕ, List, Option}
+use Rattle.std.specs.Prelude.{◌≡◌, ◌⊎◌, ℕ, ℤ, true, ⊤, List, [], Option, Result, Ok, Err}
 use Rattle.clap.specs.Words.{Text}
 use Rattle.cs_args.specs.Asked.{Advise, Asking, Chart, Draft, Explain, Gather, Help}
 use Rattle.cs_args.specs.CommandLine.{Asks}
@@ -8,36 +8,66 @@ use Rattle.cs_args.specs.CommandLine.{AsksHelp, AsksVersion, IsNoCall}
 use Rattle.cs_io.specs.Files.{Failed}
 use Rattle.cs_io.specs.Folders.{Tree}
 use Rattle.cs_files.specs.Response.{Ending}
+use Rattle.cs_files.specs.Trouble.{Trouble, ends}
 use Rattle.cs_files.specs.Usage.{IsRejected, ShowsHelp, ShowsVersion}
 use Rattle.cs_gather.specs.Answer.{AnswersGather}
-use Rattle.cs_explain.specs.Answer.{AnswersExplain}
-use Rattle.cs_draft.specs.Answer.{AnswersDraft}
-use Rattle.cs_learn.specs.Answer.{AnswersLearn}
-use Rattle.cs_chart.specs.Answer.{AnswersChart}
+use Rattle.cs_explain.specs.Answer.{AnswersExplain, IsExplained}
+use Rattle.cs_draft.specs.Answer.{AnswersDraft, PrintsDraft}
+use Rattle.cs_learn.specs.Answer.{AnswersLearn, PrintsLearned}
+use Rattle.cs_chart.specs.Answer.{AnswersChart, IsDrawn}
 use Rattle.cs_lint.specs.Answer.{AnswersLint}
-use Rattle.cs_advise.specs.Answer.{AnswersAdvise, AnswersRoom}
+use Rattle.cs_advise.specs.Answer.{AnswersAdvise, AnswersRoom, IsAdvisedOf}
+use Rattle.cs_plan.specs.Plain.{is_possible_max}
 use Rattle.cronsafe_aids.specs.declared.now.Now.{Now}
+use Rattle.cronsafe_aids.specs.declared.responding.Task.{Task}
+use Rattle.cronsafe_aids.specs.declared.responding.Task.TheVariants as task
 
--- what is answered to a subcommand, at this time; one of the other program is not answered
-abbrev pub AnswersAsked : Now → Asking → Tree → (List ℕ → Option (List ℕ)) → Failed → Failed
+-- what is answered to a subcommand once this was warned of, at this time; one of the other program is
+-- not answered
+abbrev pub AnswersAsked : Now → Asking → Tree → (List ℕ → Option (List ℕ)) → List ℕ → Failed → Failed
     → Ending → Type 0
-AnswersAsked now (Advise a) tree files before failed = AnswersAdvise a files before failed
-AnswersAsked now (Room a) tree files before failed = AnswersRoom a files before failed
-AnswersAsked now (Gather a) tree files before failed = AnswersGather a tree files before failed
-AnswersAsked now (Draft a) tree files before failed = AnswersDraft a now.offset files before failed
-AnswersAsked now (Learn a) tree files before failed = AnswersLearn a now.offset files before failed
-AnswersAsked now (Lint a) tree files before failed =
-    AnswersLint a now.instant.nanosecond files before failed
-AnswersAsked now (Chart a) tree files before failed = AnswersChart a files before failed
-AnswersAsked now (Explain name) tree files before failed = AnswersExplain before failed
-AnswersAsked now Help tree files before failed = ShowsHelp before failed
-AnswersAsked now other tree files before failed = IsRejected before failed
+AnswersAsked now (Advise a) tree files w before failed = AnswersAdvise a files w before failed
+AnswersAsked now (Room a) tree files w before failed = AnswersRoom a files w before failed
+AnswersAsked now (Gather a) tree files w before failed = AnswersGather a tree files failed
+AnswersAsked now (Draft a) tree files w before failed =
+    AnswersDraft a now.offset files w before failed
+AnswersAsked now (Learn a) tree files w before failed = AnswersLearn a files w before failed
+AnswersAsked now (Lint a) tree files w before failed = AnswersLint a files before failed
+AnswersAsked now (Chart a) tree files w before failed = AnswersChart a files w before failed
+AnswersAsked now (Explain name) tree files w before failed = AnswersExplain before failed
+AnswersAsked now Help tree files w before failed = ShowsHelp before failed
+AnswersAsked now other tree files w before failed = IsRejected before failed
+
+-- where it was answered as its files were read, this holds of how
+abbrev pub IfReady : (Ending → Type 0) → Task → Type 0
+IfReady P (task.Ready ending) = P ending
+IfReady P _ = ⊤
+
+-- what is answered of what the files of a call hold, where clocks are so far ahead of UTC
+abbrev pub IsReply : ℤ → Task → Ending → Type 0
+IsReply offset (task.Advise question planned) = IsAdvisedOf question planned
+IsReply offset (task.Draft words found) = λ ending.
+    is_possible_max words.max ≡ true → PrintsDraft words.max offset found ending
+IsReply offset (task.Learn factor found) = PrintsLearned factor.now found
+IsReply offset (task.Chart words q found) = IsDrawn q words.days found
+IsReply offset (task.Explain name) = IsExplained
+IsReply offset (task.Ready ready) = λ ending. ending ≡ ready
+IsReply offset task.Other = λ ending. (ending.status ≡ 4) × (ending.out ≡ [])
+
+-- what the files hold leads to what is answered to a call: each reply to it is that, or it is a fault,
+-- of which that is told
+abbrev pub Leads : Now → Asking → Tree → (List ℕ → Option (List ℕ)) → List ℕ → Failed → Failed
+    → Result Task Trouble → Type 0
+Leads now a tree files w before failed (Ok task) = (ending : Ending)
+    → IsReply now.offset task ending → AnswersAsked now a tree files w before failed ending
+Leads now a tree files w before failed (Err t) =
+    AnswersAsked now a tree files w before failed (ends [] t)
 
 -- what is answered to words: what they ask, help, the version, or that they are no call
-abbrev pub Answers : Now → List Text → Tree → (List ℕ → Option (List ℕ)) → Failed → Failed
+abbrev pub Answers : Now → List Text → Tree → (List ℕ → Option (List ℕ)) → List ℕ → Failed → Failed
     → Ending → Type 0
-Answers now words tree files before failed ending =
-    ((a : Asking) × Asks words a × AnswersAsked now a tree files before failed ending)
+Answers now words tree files w before failed ending =
+    ((a : Asking) × Asks words a × AnswersAsked now a tree files w before failed ending)
     ⊎ ((AsksHelp words × ShowsHelp before failed ending)
     ⊎ ((AsksVersion words × ShowsVersion before failed ending)
     ⊎ (IsNoCall words × IsRejected before failed ending)))

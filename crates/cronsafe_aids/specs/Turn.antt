@@ -1,10 +1,10 @@
--- Which files a call reads, in which order, and what is to be warned of where memory runs out.
+-- Which files a call reads, in which order, and what is warned of before it is answered.
 use Rattle.std.specs.Prelude.{◌≡◌, ◌⊎◌, ℕ, List, [], Option, None}
 use Rattle.clap.specs.Words.{Text}
 use Rattle.cs_args.specs.Asked.{Asking, Advise, Chart, Draft, Gather, Help, Learn, Lint, Room}
 use Rattle.cs_args.specs.CommandLine.{Asks}
 use Rattle.cs_io.specs.Files.{AreReadInTurn, Failed, Reads}
-use Rattle.cs_files.specs.RanOut.{IsUnwarned, IsWarned}
+use Rattle.cs_files.specs.Asked.{Warns}
 use Rattle.cs_files.specs.Turn.{AreReadToGather, chart_paths, draft_paths, judge_paths, learn_paths, lint_paths}
 
 -- the files of what is asked are read one after the other, each in its turn, and nothing else is
@@ -23,22 +23,18 @@ abbrev pub ReadsInTurn : List Text → Reads → Reads → Type 0
 ReadsInTurn words old new =
     ((a : Asking) × Asks words a × ReadsAsked a old new) ⊎ (new ≡ old)
 
--- what is to be warned of the tables of what was asked
-abbrev pub IsWarnedOf : Asking → (List ℕ → Option (List ℕ)) → Failed → Reads → Reads
-    → Option (List ℕ) → Type 0
-IsWarnedOf (Advise a) files = IsWarned files a.judge.table a.judge.anacrontab
-IsWarnedOf (Room a) files = IsWarned files a.table a.anacrontab
-IsWarnedOf (Gather a) files = λ before old new warnings. warnings ≡ None
-IsWarnedOf (Draft a) files = IsWarned files a.table a.anacrontab
-IsWarnedOf (Learn a) files = IsWarned files a.table None
-IsWarnedOf (Lint a) files = λ before. IsUnwarned (lint_paths a)
-IsWarnedOf (Chart a) files = IsWarned files a.day.table a.day.anacrontab
-IsWarnedOf Help files = λ before old new warnings. ⊥
-IsWarnedOf other files = λ before. IsUnwarned []
+-- what is warned of the tables of what was asked
+abbrev pub WarnsOf : Asking → (List ℕ → Option (List ℕ)) → Failed → Reads → Reads → List ℕ → Type 0
+WarnsOf (Advise a) files = Warns files a.judge.table a.judge.anacrontab
+WarnsOf (Room a) files = Warns files a.table a.anacrontab
+WarnsOf (Draft a) files = Warns files a.table a.anacrontab
+WarnsOf (Learn a) files = Warns files a.table None
+WarnsOf (Chart a) files = Warns files a.day.table a.day.anacrontab
+WarnsOf Help files = λ before old new w. ⊥
+WarnsOf other files = λ before old new w. w ≡ []
 
--- memory ran out on words: on what they ask, or before anything was read
-abbrev pub RanOutOn : List Text → (List ℕ → Option (List ℕ)) → Failed → Reads → Reads
-    → Option (List ℕ) → Type 0
-RanOutOn words files before old new warnings =
-    ((a : Asking) × Asks words a × IsWarnedOf a files before old new warnings)
-    ⊎ ((new ≡ old) × (warnings ≡ None))
+-- and so of what the words ask; else nothing
+abbrev pub WarnsOn : List Text → (List ℕ → Option (List ℕ)) → Failed → Reads → Reads → List ℕ → Type 0
+WarnsOn words files before old new w =
+    ((a : Asking) × Asks words a × WarnsOf a files before old new w)
+    ⊎ ((new ≡ old) × (w ≡ []))

@@ -33,7 +33,7 @@ fn asks_time(alloc: Global, words: &[String]) -> bool {
 /// Warns that `TZ` names no time zone, if the words ask for declarations, which tell the offset.
 fn warn_of_zone<E: Output>(alloc: Global, words: &[String], err: &mut E) {
     match parse_words(alloc, words) {
-        Ok(Request::Draft(_)) | Ok(Request::Learn(_)) => {
+        Ok(Request::Draft(_)) => {
             let _ = err.print(
                 b"warning: TZ names no known time zone and is taken as UTC\n".as_slice(),
             );

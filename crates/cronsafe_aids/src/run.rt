@@ -7,9 +7,9 @@ ghost use Rattle.cronsafe_aids.specs.Turn.{ReadsInTurn};
 
 use crate::now::Now;
 use crate::responding::respond;
-use cs_files::{finish, run_out_behind};
+use cs_files::{finish, run_out};
 use cs_io::{Folders, Output};
-use std::alloc::Global;
+use std::alloc::{AllocError, Global};
 use std::convert::AsStr;
 use std::thread::Threads;
 
@@ -42,8 +42,8 @@ pub(crate) fn run_words<R: Threads + Sync, S: AsStr, I: Folders, O: Output, E: O
     ensures turn { ReadsInTurn (map S.text words.now)
         (I.reads inputs.old) (I.reads inputs.new) }
 {
-    match respond(rt, alloc, words, now, inputs) {
+    match respond(rt, alloc, words, now, inputs, err) {
         Ok(response) => finish(&response, out, err).code(),
-        Err(ran_out) => run_out_behind(&ran_out, err).code(),
+        Err(AllocError) => run_out(err).code(),
     }
 }

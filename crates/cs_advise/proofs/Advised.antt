@@ -12,7 +12,7 @@ use Rattle.cs_advise.specs.declared.change.Change.{Change}
 use Rattle.cs_advise.specs.declared.source.Source.{Source}
 
 -- one pair more
-zipped : {A B : Type 0} (R : A → B → Type 0) (xs : List A) (ys : List B) (x : A) (y : B)
+pub zipped : {A B : Type 0} (R : A → B → Type 0) (xs : List A) (ys : List B) (x : A) (y : B)
     → AllZip R xs ys → R x y → AllZip R (xs ++ x ∷ []) (ys ++ y ∷ [])
 zipped R [] [] x y all r = (r, tt)
 zipped R [] (b ∷ ys) x y all r = absurd all
@@ -20,7 +20,7 @@ zipped R (a ∷ xs) [] x y all r = absurd all
 zipped R (a ∷ xs) (b ∷ ys) x y all r = (all.0, zipped R xs ys x y all.1 r)
 
 -- one line more
-joined : (lines : List (List ℕ)) (line : List ℕ) → concat (lines ++ line ∷ []) ≡ concat lines ++ line
+pub joined : (lines : List (List ℕ)) (line : List ℕ) → concat (lines ++ line ∷ []) ≡ concat lines ++ line
 joined [] line = append-nil line
 joined (first ∷ lines) line =
     ap (λ (t : List ℕ). first ++ t) (joined lines line) ∙ sym (append_assoc first (concat lines) line)

@@ -8,7 +8,7 @@ use Rattle.cs_schedule.specs.Numbers.{has}
 use Rattle.cs_schedule.specs.Times.{Times, is_day_due, is_time_due}
 use Rattle.cs_schedule.proofs.Ranges.{has-filter}
 use Rattle.cs_crontab.specs.declared.table.When.TheVariants.{At}
-use Rattle.cs_advise.specs.Change.{IsLater, IsLaterThatDay}
+use Rattle.cs_advise.specs.Change.{IsLater}
 
 -- no month is longer
 longest_month : (m : ℕ) → longest m ≤ 31
@@ -113,19 +113,3 @@ comes_daily one other before after n few is_before is_after days times daily =
     moved one other n few days
     (subst (λ (x : List ℕ). AreLater x (minutes_where (is_time_due other)) n) is_before (subst (λ (x : List ℕ). AreLater before x n) is_after times))
     (λ m d below over due. daily d)
-
--- where each minute of a day is so many minutes before one of the same day, the sets of minutes are
--- so
-pub times_later : (one other : Times) (before after : List ℕ) (n : ℕ)
-    → before ≡ minutes_where (is_time_due one) → after ≡ minutes_where (is_time_due other)
-    → IsLaterThatDay n one other → AreLater before after n
-times_later one other before after n is_before is_after is m below =
-    let less = is.less in
-    let there = subst (λ (x : List ℕ). has x ((m + n) % 1440) ≡ is_time_due other ((m + n) % 1440)) (sym is_after) (found (is_time_due other) ((m + n) % 1440) (omega arith)) in
-    let here = subst (λ (x : List ℕ). has x m ≡ is_time_due one m) (sym is_before) (found (is_time_due one) m below) in
-    there ∙ (is.times m below ∙ sym here)
-
-pub times_stay : (one other : Times) (before : List ℕ) (n : ℕ) → before ≡ minutes_where (is_time_due one)
-    → IsLaterThatDay n one other → (m : ℕ) → m < 1440 → 1440 ≤ m + n → has before m ≡ false
-times_stay one other before n is_before is m below over =
-    subst (λ (x : List ℕ). has x m ≡ false) (sym is_before) (found (is_time_due one) m below ∙ is.stays m below over)

@@ -1,17 +1,14 @@
 -- What is answered to `room` and to `advise`.
 use Rattle.std.specs.Prelude.{◌≡◌, ◌≢◌, ◌⊎◌, ℕ, List, [], ◌++◌, ◌∷◌, codes, flat_map}
-use Rattle.std.specs.Prelude.{Option, Result}
-use Rattle.cs_anacrontab.specs.Anacrontab.{Table as JobTable}
+use Rattle.std.specs.Prelude.{Option}
+use Rattle.std.specs.List.{AllZip, concat}
 use Rattle.cs_args.specs.Asked.{AskedAdvise, AskedJudge}
 use Rattle.cs_counterexample.specs.ShownText.{shown_text}
 use Rattle.cs_counterexample.specs.declared.shown.Shown.{Shown}
-use Rattle.cs_crontab.specs.Crontab.{Table}
 use Rattle.cs_plan.specs.Plan.{Declared}
-use Rattle.cs_files.specs.Reads.{AndThen, Answered, FittingIn, GivesSome, ReadsFitting}
-use Rattle.cs_files.specs.Reads.{ReadsTables, TextIn, WithPlaces}
+use Rattle.cs_files.specs.Asked.{Answers, FindsPlan}
 use Rattle.cs_files.specs.Response.{Ending}
-use Rattle.cs_files.specs.Trouble.{Trouble}
-use Rattle.cs_place.specs.Places.{places_of}
+use Rattle.cs_files.specs.declared.asked.Planned.{Planned}
 use Rattle.cs_io.specs.Files.{Failed}
 use Rattle.cs_judge.specs.Answer.{IsUnknown, unknown_outcome}
 use Rattle.cs_judge.specs.Judged.{IsJudgement}
@@ -22,7 +19,7 @@ use Rattle.cs_judge.specs.declared.judged.Judged.{Judged}
 use Rattle.cs_judge.specs.declared.judged.Judged.TheVariants.{Safe, Unknown, Unsafe}
 use Rattle.cs_report.specs.Warning.{plan_notes}
 use Rattle.cs_advise.specs.Advice.{IsAdvice}
-use Rattle.cs_advise.specs.Room.{AreRooms, room_text}
+use Rattle.cs_advise.specs.Room.{AreRooms, IsRoomLine}
 use Rattle.cs_advise.specs.declared.answers.Question.{Question}
 use Rattle.cs_advise.specs.declared.answers.Question.TheVariants.{Advice, Rooms}
 use Rattle.cs_advise.specs.declared.change.Change.{Change}
@@ -33,7 +30,9 @@ use Rattle.cs_advise.specs.declared.source.Source.{Source}
 pub record TellsRooms (plan : Declared) (head out : List ℕ) : Type 0 where
   pub rooms : List Room
   pub each : AreRooms plan rooms
-  pub told : out ≡ head ++ room_text plan rooms
+  pub lines : List (List ℕ)
+  pub told : AllZip (IsRoomLine plan) rooms lines
+  pub text : out ≡ head ++ concat lines
 
 -- the line of what is broken first, and where advice is asked, comments below it that tell it
 abbrev pub IsBrokenText : Question → Declared → Shown → List ℕ → Type 0
@@ -83,39 +82,26 @@ pub record IsAdvised (question : Question) (source : Source) (plan : Declared) (
   pub notes : List ℕ
   pub err : ending.err ≡ plan_notes plan ++ notes
 
--- the texts are those of the files at these paths, which denote the table and make the plan
-pub record AreTexts (files : List ℕ → Option (List ℕ)) (a : AskedJudge) (tables : Table × JobTable)
-    (plan : Declared) (source : Source) : Type 0 where
-  pub table : TextIn files a.table tables.0 source.table
-  pub declarations : FittingIn files a.declarations (places_of source.table tables.0) tables plan
-      source.declarations
+-- what is answered of the plan that the files make, which comes from their texts
+abbrev pub source_of : Planned → Source
+source_of planned = record { table = planned.table; declarations = planned.declarations }
 
--- and so with the texts of the files
-abbrev pub IsAdvisedAt : Question → (List ℕ → Option (List ℕ)) → AskedJudge → Table × JobTable
-    → Declared → Ending → Type 0
-IsAdvisedAt question files a tables plan ending =
-    (source : Source) × AreTexts files a tables plan source
-    × IsAdvised question source plan ending
-
--- the declarations are read, and the plan is judged
-abbrev pub AdvisesPlan : Question → (List ℕ → Option (List ℕ)) → AskedJudge → Table × JobTable
-    → Failed → Failed → Result Ending Trouble → Type 0
-AdvisesPlan question files a tables = WithPlaces files a.table tables.0 (λ places.
-    AndThen (ReadsFitting files places tables a.declarations)
-    (λ plan. GivesSome (IsAdvisedAt question files a tables plan)))
+abbrev pub IsAdvisedOf : Question → Planned → Ending → Type 0
+IsAdvisedOf question planned = IsAdvised question (source_of planned) planned.plan
 
 -- what is answered to a question: that, or the first fault of a file, and no file is read before
 -- its own turn
-abbrev pub AnswersQuestion : Question → AskedJudge → (List ℕ → Option (List ℕ)) → Failed → Failed
-    → Ending → Type 0
-AnswersQuestion question a files =
-    Answered (ReadsTables files a.table a.anacrontab) (λ both. AdvisesPlan question files a both)
+abbrev pub AnswersQuestion : Question → AskedJudge → (List ℕ → Option (List ℕ)) → List ℕ → Failed
+    → Failed → Ending → Type 0
+AnswersQuestion question a files w =
+    Answers (FindsPlan files a.table a.anacrontab a.declarations w) (IsAdvisedOf question)
 
 -- `room` prints the room of each job
-abbrev pub AnswersRoom : AskedJudge → (List ℕ → Option (List ℕ)) → Failed → Failed → Ending → Type 0
-AnswersRoom a files = AnswersQuestion Rooms a files
+abbrev pub AnswersRoom : AskedJudge → (List ℕ → Option (List ℕ)) → List ℕ → Failed → Failed → Ending
+    → Type 0
+AnswersRoom = AnswersQuestion Rooms
 
 -- `advise` prints changes, with starts that are shifted by so many minutes at most
-abbrev pub AnswersAdvise : AskedAdvise → (List ℕ → Option (List ℕ)) → Failed → Failed → Ending
-    → Type 0
-AnswersAdvise a files = AnswersQuestion (Advice a.within) a.judge files
+abbrev pub AnswersAdvise : AskedAdvise → (List ℕ → Option (List ℕ)) → List ℕ → Failed → Failed
+    → Ending → Type 0
+AnswersAdvise a = AnswersQuestion (Advice a.within) a.judge

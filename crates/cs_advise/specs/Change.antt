@@ -1,5 +1,5 @@
 -- Changes of a table or of declarations.
-use Rattle.std.specs.Prelude.{◌≡◌, ◌≢◌, ◌==◌, ◌+◌, ◌%◌, ◌<◌, ◌≤◌, ℕ, List, Ok, false, length}
+use Rattle.std.specs.Prelude.{◌≡◌, ◌≢◌, ◌==◌, ◌+◌, ◌<◌, ℕ, List, Ok, length}
 use Rattle.std.specs.Prelude.{if◌then◌else◌, slice_index_or}
 use Rattle.cs_anacrontab.specs.Anacrontab.{Table as JobTable}
 use Rattle.cs_crontab.specs.Crontab.{CommandLine, Table}
@@ -9,7 +9,6 @@ use Rattle.cs_decl.specs.Join.{joined}
 use Rattle.cs_decl.specs.Meaning.{declared_by}
 use Rattle.cs_plan.specs.Plan.{Declared, is_due, no_command}
 use Rattle.cs_decl.specs.declared.entries.Entries.{Entries}
-use Rattle.cs_schedule.specs.Times.{Times, is_time_due}
 use Rattle.cs_advise.specs.Edit.{HasValue, IsPut}
 use Rattle.cs_advise.specs.Replaced.{IsOtherLine}
 use Rattle.cs_advise.specs.declared.change.Change.{Change}
@@ -24,16 +23,6 @@ use Rattle.cs_advise.specs.declared.source.Source.{Source}
 -- minute 0 is 1970-01-01 00:00
 abbrev pub IsLater : ℕ → When → When → Type 0
 IsLater minutes one other = (t : ℕ) → is_due other (t + minutes) ≡ is_due one t
-
--- the fields of the days are the same, and each minute of a day of the one is so many minutes
--- before one of the other on the same day, which has no more
-pub record IsLaterThatDay (minutes : ℕ) (one other : Times) : Type 0 where
-  pub less : minutes < 1440
-  pub dom : one.dom ≡ other.dom
-  pub month : one.month ≡ other.month
-  pub dow : one.dow ≡ other.dow
-  pub times : (m : ℕ) → m < 1440 → is_time_due other ((m + minutes) % 1440) ≡ is_time_due one m
-  pub stays : (m : ℕ) → m < 1440 → 1440 ≤ m + minutes → is_time_due one m ≡ false
 
 -- the starts are shifted so
 abbrev pub IsShifted : Shift → When → When → Type 0

@@ -1,12 +1,9 @@
 -- Declarations in which one member has another value, and what is pasted to get them.
-use Rattle.std.specs.Prelude.{◌≡◌, ◌⊎◌, ℕ, List, ◌++◌, [], IsSome, Ok, Some, codes, map}
+use Rattle.std.specs.Prelude.{◌≡◌, ◌⊎◌, ℕ, List, ◌++◌, [], IsSome, codes, map}
 use Rattle.std.specs.Prelude.{if◌then◌else◌, nat_lt}
-use Rattle.serde_json.specs.Data.{Data, array, item, no_items, number, unsigned}
+use Rattle.serde_json.specs.Data.{array, item, no_items, number, unsigned}
 use Rattle.serde_json.specs.Written.{compact_text}
 use Rattle.cs_plan.specs.Plan.{Declared, job_at}
-use Rattle.cs_decl.specs.Shape.{anacron_of, cron_of}
-use Rattle.cs_decl.specs.declared.entries.AnacronEntry.{AnacronEntry}
-use Rattle.cs_decl.specs.declared.entries.CronEntry.{CronEntry}
 use Rattle.cs_history.specs.declared.mode.Mode.{Mode as LockMode}
 use Rattle.cs_history.specs.declared.mode.Mode.TheVariants as modes
 use Rattle.cs_json.specs.Bytes.{json_of}
@@ -24,22 +21,15 @@ HasOther old name value new =
     ((part : List ℕ) × IsSome (json_of part) × IsReplaced old part value new)
     ⊎ IsReplaced old [] (codes ", " ++ member_text name value) new
 
--- the text is an entry, of `cron` or of `anacron`
-abbrev pub IsEntry : List ℕ → Type 0
-IsEntry text =
-    (d : Data) × (json_of text ≡ Some d)
-    × (((e : CronEntry) × (cron_of d ≡ Ok e)) ⊎ ((e : AnacronEntry) × (anacron_of d ≡ Ok e)))
-
 -- a control byte as a blank: in JSON none stands within a word or a text
 abbrev pub blank_control : ℕ → ℕ
 blank_control b = if nat_lt b 32 then 32 else b
 
--- An entry of the declarations has another value of a member. It is pasted in place of the old one,
--- on one line.
+-- A part of the declarations, an entry, has another value of a member. It is pasted in place of the
+-- old one, on one line.
 pub record IsEntryPut (declarations name value pasted text : List ℕ) : Type 0 where
   pub old : List ℕ
   pub new : List ℕ
-  pub entry : IsEntry old
   pub kept : HasOther old name value new
   pub told : pasted ≡ map blank_control new
   pub put : IsReplaced declarations old pasted text

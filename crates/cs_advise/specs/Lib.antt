@@ -1,5 +1,4 @@
 pub mod Names
-pub mod Gap
 pub mod Room
 pub mod Replaced
 pub mod Edit

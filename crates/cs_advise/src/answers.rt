@@ -1,23 +1,22 @@
-//! What is answered of a plan that was judged.
-ghost use Rattle.std.specs.Prelude.{◌≡◌, IfOk};
+//! The subcommands `room` and `advise`.
+ghost use Rattle.std.specs.Prelude.{◌≡◌, ◌≢◌, IfOk};
 ghost use Rattle.cs_files.specs.Response.{status_of};
 ghost use Rattle.cs_counterexample.specs.Shown.{IsTellable};
-ghost use Rattle.cs_judge.specs.Called.{IsCalledSafe};
 ghost use Rattle.cs_plan.specs.Plan.{as_plan};
 ghost use Rattle.cs_judge.specs.Judged.{IsJudgement};
 ghost use Rattle.cs_advise.specs.Advice.{IsAdvice};
-ghost use Rattle.cs_advise.specs.Answer.{IsAdvised, IsBrokenText, IsPrinted, IsTold, TellsRooms};
+ghost use Rattle.cs_advise.specs.Answer.{IsAdvised, IsAdvisedOf, IsBrokenText, IsPrinted, IsTold};
 ghost use Rattle.cs_advise.specs.Answer.{head_of};
 
 use crate::advice::{Advice, told_changes};
 use crate::breach::jobs_of;
 use crate::places::{changed_places, shown_places};
-use crate::rooms::{push_rooms, rooms_of};
+use crate::rooms::rooms_text;
 use crate::search::Search;
 use crate::source::Source;
 use cs_civil::Bytes;
 use cs_counterexample::{Shown, shown_text};
-use cs_files::{Response, Status};
+use cs_files::{Planned, Response, Status};
 use cs_judge::{Judged, Outcome, Wanted, answer, judge};
 use cs_place::Place;
 use cs_plan::Plan;
@@ -42,22 +41,6 @@ struct Reply {
     text: Vec<u8>,
     /// Beside it.
     notes: Vec<u8>,
-}
-
-/// A line for the room of each job of a safe plan, behind what stands before them.
-fn rooms_text<R: Threads + Sync>(
-    rt: &R,
-    alloc: Global,
-    plan: &Plan,
-    head: &[u8],
-) -> Result<Vec<u8>, AllocError>
-    requires { IsCalledSafe plan.now }
-    ensures { IfOk result (λ out. TellsRooms plan.now head.now out.items) }
-{
-    let rooms = rooms_of(rt, alloc, plan)?;
-    let mut text = Vec::from_slice(alloc, head)?;
-    push_rooms(alloc, &mut text, plan, rooms.as_slice())?;
-    Ok(text)
 }
 
 /// The line of what is broken first, and below it, where advice is asked, what is broken.
@@ -190,9 +173,8 @@ fn printed<R: Threads + Sync>(
     }
 }
 
-/// What is answered of a plan that comes from these texts, beside the notes on it. The only error
-/// is want of memory.
-pub(crate) fn advised<R: Threads + Sync>(
+/// What is answered of a plan that comes from these texts, beside the notes on it.
+fn advised<R: Threads + Sync>(
     rt: &R,
     alloc: Global,
     source: &Source,
@@ -207,4 +189,28 @@ pub(crate) fn advised<R: Threads + Sync>(
     let told = printed(rt, alloc, source, plan, places, question, &judged)?;
     notes.extend_from_slice(told.notes.as_slice())?;
     Ok(Response::told(told.status, told.text, Bytes::from_vec(notes)))
+}
+
+/// Answers `room TABLE DECLS [--anacrontab FILE]` or `advise TABLE DECLS [--anacrontab FILE]
+/// [--within MINUTES]`. The only error is want of memory.
+pub fn answer_advise<R: Threads + Sync>(
+    rt: &R,
+    alloc: Global,
+    planned: Planned,
+    question: Question,
+) -> Result<Response, AllocError>
+    ensures advised { IfOk result (IsAdvisedOf question planned) }
+    ensures done { IfOk result (λ r. r.status ≢ 6) }
+{
+    let Planned {
+        plan,
+        places,
+        table,
+        declarations,
+    } = planned;
+    let source = Source {
+        table,
+        declarations,
+    };
+    advised(rt, alloc, &source, &plan, places.as_slice(), question)
 }

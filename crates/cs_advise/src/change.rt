@@ -3,7 +3,7 @@ use cs_history::Mode;
 
 /// How many minutes later or earlier a command starts.
 #[derive(Clone, Copy, PartialEq, Eq)]
-pub enum Shift {
+pub(crate) enum Shift {
     /// So many later.
     Later(u16),
     /// So many earlier.
@@ -29,18 +29,18 @@ impl Shift {
 
 /// A cron job's line whose command starts later or earlier.
 #[derive(Drop)]
-pub struct Start {
+pub(crate) struct Start {
     /// The number of the job.
-    pub job: u16,
+    pub(crate) job: u16,
     /// How much later or earlier.
-    pub shift: Shift,
+    pub(crate) shift: Shift,
     /// The line.
-    pub line: Bytes,
+    pub(crate) line: Bytes,
 }
 
 /// Another value of one member of declarations.
 #[derive(Drop)]
-pub enum Member {
+pub(crate) enum Member {
     /// Each run of a job ends within so many minutes.
     Max(u16, u16),
     /// A cron job treats the lock of its group so.
@@ -53,7 +53,7 @@ pub enum Member {
 
 /// A change of a line of a table or of two, or of declarations.
 #[derive(Drop)]
-pub enum Change {
+pub(crate) enum Change {
     /// A cron job starts so.
     Start(Start),
     /// Two cron jobs start so.

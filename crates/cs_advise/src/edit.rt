@@ -1,14 +1,13 @@
 //! Declarations in which one member has another value, and what is pasted to get them.
-ghost use Rattle.std.specs.Prelude.{◌≡◌, ◌++◌, IfOk, IfSome, IsTrue, map};
-ghost use Rattle.cs_advise.specs.Edit.{HasOther, IsEntry, IsEntryPut, IsMemberPut, IsPut};
-ghost use Rattle.cs_advise.specs.Edit.{blank_control, member_text, mode_text};
+ghost use Rattle.std.specs.Prelude.{◌≡◌, ◌++◌, IfOk, IfSome, map};
+ghost use Rattle.cs_advise.specs.Edit.{HasOther, IsEntryPut, IsMemberPut, IsPut, blank_control};
+ghost use Rattle.cs_advise.specs.Edit.{member_text, mode_text};
 
 use crate::change::Member;
 use crate::text::{joined, replaced};
-use cs_decl::{AnacronEntry, CronEntry};
 use cs_diagnostics::{Object, Span, parsed, parts, trimmed};
 use cs_history::Mode;
-use cs_json::{FromJson, Misread, parse, write};
+use cs_json::{Misread, parse, write};
 use cs_plan::{Plan, identifier_of};
 use serde_json::Value;
 use std::alloc::{AllocError, Global};
@@ -129,27 +128,6 @@ fn with_value(
     }
 }
 
-/// Whether a text is an entry.
-fn is_entry(alloc: Global, text: &[u8]) -> Result<bool, AllocError>
-    ensures { IfOk result (λ is. IsTrue is → IsEntry text.now) }
-{
-    let value = match parse(alloc, text) {
-        Ok(value) => value,
-        Err(Misread::Memory) => return Err(AllocError),
-        Err(Misread::Fault(_)) => return Ok(false),
-    };
-    match CronEntry::from_json(alloc, &value) {
-        Ok(_) => return Ok(true),
-        Err(Misread::Memory) => return Err(AllocError),
-        Err(Misread::Fault(_)) => {}
-    }
-    match AnacronEntry::from_json(alloc, &value) {
-        Ok(_) => Ok(true),
-        Err(Misread::Memory) => Err(AllocError),
-        Err(Misread::Fault(_)) => Ok(false),
-    }
-}
-
 /// The text on one line: a control byte as a blank.
 fn on_one_line(alloc: Global, text: &[u8]) -> Result<Vec<u8>, AllocError>
     ensures { IfOk result (λ line. line.items ≡ map blank_control text.now) }
@@ -177,9 +155,6 @@ fn entry_put(
         return Ok(None);
     };
     let old = span.bytes(text);
-    if !is_entry(alloc, old)? {
-        return Ok(None);
-    }
     let Some(new) = with_value(alloc, old, name, value)? else {
         return Ok(None);
     };

@@ -1,10 +1,10 @@
 //! Whether a command starts as another one does, but so many minutes later.
-ghost use Rattle.std.specs.Prelude.{◌≡◌, ◌+◌, ◌%◌, ◌<◌, ◌≤◌, ◌↔◌, ℕ, IsTrue, true, false};
+ghost use Rattle.std.specs.Prelude.{◌≡◌, ◌+◌, ◌%◌, ◌<◌, ◌≤◌, ℕ, IsTrue, true, false};
 ghost use Rattle.cs_civil.specs.Calendar.{kind};
 ghost use Rattle.cs_schedule.specs.Numbers.{has};
 ghost use Rattle.cs_schedule.specs.Times.{is_day_due};
 ghost use Rattle.cs_crontab.specs.declared.table.When.TheVariants.{At};
-ghost use Rattle.cs_advise.specs.Change.{IsLater, IsLaterThatDay};
+ghost use Rattle.cs_advise.specs.Change.{IsLater};
 
 use cs_civil::MINUTES_OF_DAY;
 use cs_crontab::{Field, MinuteSet, Part, Schedule};
@@ -14,7 +14,6 @@ fn are_alike(one: &Field, other: &Field) -> bool
     ensures star { IsTrue result → one.now.star ≡ other.now.star }
     ensures numbers { IsTrue result
         → (n : ℕ) → n < 64 → has one.now.numbers n ≡ has other.now.numbers n }
-    ensures same { one.now ≡ other.now → IsTrue result }
 {
     for number in 0..64 {
         if one.has(number) != other.has(number) {
@@ -27,10 +26,8 @@ fn are_alike(one: &Field, other: &Field) -> bool
 /// Whether both are due on the same days.
 #[tactic(auto, using(crate::proofs::Shifts::same_days))]
 fn are_days_alike(one: &Schedule, other: &Schedule) -> bool
-    ensures days { IsTrue result
+    ensures { IsTrue result
         → (d : ℕ) → is_day_due other.now (kind d) ≡ is_day_due one.now (kind d) }
-    ensures same { one.now.dom ≡ other.now.dom → one.now.month ≡ other.now.month
-        → one.now.dow ≡ other.now.dow → IsTrue result }
 {
     are_alike(one.field(Part::Dom), other.field(Part::Dom))
         && are_alike(one.field(Part::Month), other.field(Part::Month))
@@ -63,8 +60,8 @@ pub(crate) fn is_daily(schedule: &Schedule) -> bool
 /// Whether each minute of a day is in the one set as the minute so many later is in the other.
 fn are_later(one: &MinuteSet, other: &MinuteSet, minutes: u16) -> bool
     requires { minutes < MINUTES_OF_DAY }
-    ensures { IsTrue result ↔ ((m : ℕ) → m < MINUTES_OF_DAY
-        → has other.now ((m + minutes) % MINUTES_OF_DAY) ≡ has one.now m) }
+    ensures { IsTrue result → (m : ℕ) → m < MINUTES_OF_DAY
+        → has other.now ((m + minutes) % MINUTES_OF_DAY) ≡ has one.now m }
 {
     for minute in 0..MINUTES_OF_DAY {
         if other.has((minute + minutes) % MINUTES_OF_DAY) != one.has(minute) {
@@ -77,8 +74,8 @@ fn are_later(one: &MinuteSet, other: &MinuteSet, minutes: u16) -> bool
 /// Whether none of the minutes comes over a midnight, so many later.
 fn stays(set: &MinuteSet, minutes: u16) -> bool
     requires { minutes < MINUTES_OF_DAY }
-    ensures { IsTrue result ↔ ((m : ℕ) → m < MINUTES_OF_DAY → MINUTES_OF_DAY ≤ m + minutes
-        → has set.now m ≡ false) }
+    ensures { IsTrue result → (m : ℕ) → m < MINUTES_OF_DAY → MINUTES_OF_DAY ≤ m + minutes
+        → has set.now m ≡ false }
 {
     for minute in MINUTES_OF_DAY - minutes..MINUTES_OF_DAY {
         if set.has(minute) {
@@ -91,8 +88,7 @@ fn stays(set: &MinuteSet, minutes: u16) -> bool
 /// Whether each start of the one is so many minutes before one of the other, and the other has no
 /// more. A start that comes over a midnight is followed where each day has it.
 pub(crate) fn is_later(one: &Schedule, other: &Schedule, minutes: u16) -> bool
-    ensures later { IsTrue result → IsLater minutes (At one.now) (At other.now) }
-    ensures found { IsLaterThatDay minutes one.now other.now → IsTrue result }
+    ensures { IsTrue result → IsLater minutes (At one.now) (At other.now) }
 {
     if minutes >= MINUTES_OF_DAY || !are_days_alike(one, other) {
         return false;

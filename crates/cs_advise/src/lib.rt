@@ -3,7 +3,6 @@
 #![tactic(auto)]
 
 mod advice;
-mod answering;
 mod answers;
 mod breach;
 mod change;
@@ -22,9 +21,4 @@ mod source;
 mod text;
 mod told;
 
-pub use answering::{answer_advise, answer_room};
-pub use answers::Question;
-pub use change::{Change, Member, Shift, Start};
-pub use gap::Gap;
-pub use room::Room;
-pub use source::Source;
+pub use answers::{Question, answer_advise};

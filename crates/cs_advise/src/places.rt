@@ -6,20 +6,6 @@ use cs_place::{Place, push_places_told};
 use cs_plan::Plan;
 use std::alloc::{AllocError, Global};
 
-/// Adds the jobs that a change names.
-fn push_change_jobs(jobs: &mut Vec<usize>, change: &Change) -> Result<(), AllocError> {
-    match change {
-        Change::Start(start) => jobs.extend_from_slice(&[usize::from(start.job)]),
-        Change::Both(one, other) => {
-            jobs.extend_from_slice(&[usize::from(one.job), usize::from(other.job)])
-        }
-        Change::Member(Member::Max(job, _) | Member::Mode(job, _)) => {
-            jobs.extend_from_slice(&[usize::from(*job)])
-        }
-        Change::Member(Member::Capacity(_) | Member::Hours(_)) => Ok(()),
-    }
-}
-
 /// A note for each line that is one of these jobs and has a place. The only error is want of
 /// memory.
 fn job_places(
@@ -43,7 +29,16 @@ pub(crate) fn changed_places(
 ) -> Result<Vec<u8>, AllocError> {
     let mut jobs = Vec::new(alloc);
     for change in changes {
-        push_change_jobs(&mut jobs, change)?;
+        match change {
+            Change::Start(start) => jobs.push(usize::from(start.job))?,
+            Change::Both(one, other) => {
+                jobs.extend_from_slice(&[usize::from(one.job), usize::from(other.job)])?
+            }
+            Change::Member(Member::Max(job, _) | Member::Mode(job, _)) => {
+                jobs.push(usize::from(*job))?
+            }
+            Change::Member(Member::Capacity(_) | Member::Hours(_)) => {}
+        }
     }
     job_places(alloc, plan, places, jobs.as_slice())
 }

@@ -6,7 +6,7 @@ ghost use Rattle.cs_plan.specs.declared.limits.TheConstants.{MAX_MINUTES};
 ghost use Rattle.cs_judge.specs.Called.{IsCalledSafe};
 ghost use Rattle.cs_advise.specs.Room.{IsRoom};
 
-use crate::gap::{Gap, gap_of};
+use crate::gap::gap_of;
 use crate::longer::with_max;
 use cs_judge::is_called_safe;
 use cs_plan::{MAX_MINUTES, Plan};
@@ -21,16 +21,16 @@ const GROWTH: u16 = 8;
 
 /// What a job of a safe plan has to spare, in minutes.
 #[derive(Clone, Copy)]
-pub struct Room {
+pub(crate) struct Room {
     /// The number of the job.
-    pub job: u16,
+    pub(crate) job: u16,
     /// The longest time that is declared.
-    pub max: u16,
+    pub(crate) max: u16,
     /// The greatest longest time that was judged safe, all else as it is declared.
-    pub most: u16,
+    pub(crate) most: u16,
     /// The smallest gap, as it is declared, between a window of the job and one of another command
     /// of its group: none where there is no other, and of a job of the anacrontab.
-    pub gap: Option<Gap>,
+    pub(crate) gap: Option<i32>,
 }
 
 /// Whether the plan is called safe with another longest time of a job.

@@ -280,16 +280,6 @@ impl<R: Threads + Sync> Search<'_, R> {
         Ok(())
     }
 
-    /// Adds the least greater capacity with which the plan is safe. The greatest is tried first:
-    /// where that doesn't help, none does.
-    fn add_capacity(&self, changes: &mut Vec<Change>) -> Result<(), AllocError> {
-        if !self.is_safe(&Change::Member(Member::Capacity(MAX_CAPACITY)))? {
-            return Ok(());
-        }
-        let (safe, low) = (u16::from(MAX_CAPACITY), u16::from(self.plan.capacity()));
-        self.add_value(changes, Tried::Capacity, safe, low)
-    }
-
     /// Adds the declarations of jobs with which the plan is safe.
     fn add_declared(&self, changes: &mut Vec<Change>, jobs: &[u16]) -> Result<(), AllocError> {
         for job in jobs {
@@ -317,7 +307,11 @@ impl<R: Threads + Sync> Search<'_, R> {
         }
         changes.sort_by_key(|change| minutes_of(change))?;
         self.add_declared(changes, jobs)?;
-        self.add_capacity(changes)?;
+        // where the greatest capacity doesn't help, none does
+        if self.is_safe(&Change::Member(Member::Capacity(MAX_CAPACITY)))? {
+            let (safe, low) = (u16::from(MAX_CAPACITY), u16::from(self.plan.capacity()));
+            self.add_value(changes, Tried::Capacity, safe, low)?;
+        }
         if !self.plan.anacrontab().lines().is_empty() {
             let (from, to) = (self.plan.hours().from(), self.plan.hours().to());
             self.add_value(changes, Tried::To, from, to)?;

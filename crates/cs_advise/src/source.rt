@@ -2,9 +2,9 @@ use cs_civil::Bytes;
 
 /// The texts that a plan is read from.
 #[derive(Drop)]
-pub struct Source {
+pub(crate) struct Source {
     /// The text of the crontab.
-    pub table: Bytes,
+    pub(crate) table: Bytes,
     /// The text of the declarations.
-    pub declarations: Bytes,
+    pub(crate) declarations: Bytes,
 }

@@ -36,59 +36,47 @@ fn about(mode: Mode) -> &'static str {
     }
 }
 
-/// The name of a job, and words behind it.
-fn named(alloc: Global, plan: &Plan, job: u16, words: &str) -> Result<Vec<u8>, AllocError> {
-    let mut text = Vec::new(alloc);
-    push_label(alloc, &mut text, plan, job)?;
-    text.extend_from_slice(words.as_bytes())?;
-    Ok(text)
-}
-
-/// The words on mode wait: how late a run may start and end, by the reach of the job.
-fn words_on_wait(
-    alloc: Global,
-    plan: &Plan,
-    checked: &Checked,
-    job: u16,
-) -> Result<Vec<u8>, AllocError> {
-    let reach = reach_in(checked, job);
-    let late = reach.saturating_sub(plan.job_at(job).max());
-    let (about, late_unit, unit) = (about(Mode::Wait), unit(late), unit(reach));
-    let words = format!(in alloc;
-        "{about}{late} {late_unit} late and end up to {reach} {unit} after its due minute: "
-    )?;
-    named(alloc, plan, job, words.as_str())
-}
-
-/// The words on another value of a member.
+/// The words on another value of a member. Those on mode wait say how late a run may start and end, by
+/// the reach of the job.
 fn words_on(
     alloc: Global,
     plan: &Plan,
     checked: &Checked,
     member: &Member,
 ) -> Result<Vec<u8>, AllocError> {
-    match member {
+    let mut text = Vec::new(alloc);
+    if let Member::Max(job, _) | Member::Mode(job, _) = member {
+        push_label(alloc, &mut text, plan, *job)?;
+    }
+    let words = match member {
         Member::Max(job, max) => {
             let old = plan.job_at(*job).max();
-            let words = format!(in alloc; ", max {max} in place of {old}: ")?;
-            named(alloc, plan, *job, words.as_str())
+            format!(in alloc; ", max {max} in place of {old}: ")?
         }
-        Member::Mode(job, Mode::Wait) => words_on_wait(alloc, plan, checked, *job),
-        Member::Mode(job, mode) => named(alloc, plan, *job, about(*mode)),
+        Member::Mode(job, Mode::Wait) => {
+            let reach = reach_in(checked, *job);
+            let late = reach.saturating_sub(plan.job_at(*job).max());
+            let (about, late_unit, unit) = (about(Mode::Wait), unit(late), unit(reach));
+            format!(in alloc;
+                "{about}{late} {late_unit} late and end up to {reach} {unit} after its due minute: "
+            )?
+        }
+        Member::Mode(_, mode) => String::from_str(alloc, about(*mode))?,
         Member::Capacity(capacity) => {
             let old = plan.capacity();
-            Ok(format!(in alloc; "capacity {capacity} in place of {old}: ")?.into_bytes())
+            format!(in alloc; "capacity {capacity} in place of {old}: ")?
         }
         Member::Hours(hours) => {
             let (from, to, old) = (hours.from(), hours.to(), plan.hours());
             let (old_from, old_to) = (old.from(), old.to());
-            let words = format!(in alloc;
+            format!(in alloc;
                 "hours {from} to {to} in place of {old_from} to {old_to}, if anacron \
                 itself keeps to them (START_HOURS_RANGE, which Debian's anacron doesn't know): "
-            )?;
-            Ok(words.into_bytes())
+            )?
         }
-    }
+    };
+    text.extend_from_slice(words.as_bytes())?;
+    Ok(text)
 }
 
 /// Adds a line of a table as a terminal may show it.

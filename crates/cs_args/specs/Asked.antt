@@ -87,12 +87,12 @@ pub record AskedDraft : Type 0 where
   pub max : ℕ
   pub anacrontab : Option Text
   pub update : Option Text
+  pub maxes : Option Text
 
 pub record AskedLearn : Type 0 where
   pub table : Text
   pub logs : List Text
   pub factor : Text
-  pub update : Option Text
 
 pub record AskedLint : Type 0 where
   pub table : Text
@@ -204,6 +204,7 @@ asked_draft d = record {
   max = d.max;
   anacrontab = option_map (λ path. path.now) d.anacrontab;
   update = option_map (λ path. path.now) d.update;
+  maxes = option_map (λ path. path.now) d.maxes;
 }
 
 abbrev pub asked_learn : LearnWords → AskedLearn
@@ -211,7 +212,6 @@ asked_learn l = record {
   table = l.table.now;
   logs = map (λ path. path.now) l.logs.items;
   factor = l.factor.now;
-  update = option_map (λ path. path.now) l.update;
 }
 
 abbrev pub asked_lint : LintWords → AskedLint

@@ -69,12 +69,9 @@ usage_of subcommand.Status = (codes "status", word "STAMPS" ∷ flag "json" ∷ 
 usage_of subcommand.Gather = (codes "gather", value "root" ∷ values "system" ∷ values "user" ∷ [])
 usage_of subcommand.Draft = (
   codes "draft",
-  word "TABLE" ∷ value "anacrontab" ∷ value "max" ∷ value "update" ∷ [],
+  word "TABLE" ∷ value "anacrontab" ∷ value "max" ∷ value "update" ∷ value "max-from" ∷ [],
 )
-usage_of subcommand.Learn = (
-  codes "learn",
-  word "TABLE" ∷ words "LOG" ∷ value "factor" ∷ value "update" ∷ [],
-)
+usage_of subcommand.Learn = (codes "learn", word "TABLE" ∷ words "LOG" ∷ value "factor" ∷ [])
 usage_of subcommand.Lint = (
   codes "lint",
   word "TABLE" ∷ optional_word "DECLS" ∷ value "anacrontab" ∷ value "zone" ∷ values "only" ∷
@@ -121,8 +118,8 @@ numbers =
 abbrev pub inputs : List Text
 inputs =
     codes "TABLE" ∷ codes "DECLS" ∷ codes "CERT" ∷ codes "SCRIPT" ∷ codes "LOG" ∷
-    codes "anacrontab" ∷ codes "declarations" ∷ codes "update" ∷ codes "zone" ∷ codes "system" ∷
-    codes "user" ∷ []
+    codes "anacrontab" ∷ codes "declarations" ∷ codes "update" ∷ codes "max-from" ∷ codes "zone" ∷
+    codes "system" ∷ codes "user" ∷ []
 
 -- `cronsafe`: it has a version, and wants a subcommand, of which `help` is its own
 unfoldable pub top_app : App
@@ -300,12 +297,12 @@ asked_in subcommand.Draft rows = Draft (record {
   max = number_or 60 (codes "max") rows;
   anacrontab = first_of (codes "anacrontab") rows;
   update = first_of (codes "update") rows;
+  maxes = first_of (codes "max-from") rows;
 })
 asked_in subcommand.Learn rows = Learn (record {
   table = value_or [] (codes "TABLE") rows;
   logs = values_in (codes "LOG") rows;
   factor = value_or (codes "1.5") (codes "factor") rows;
-  update = first_of (codes "update") rows;
 })
 asked_in subcommand.Lint rows = Lint (record {
   table = value_or [] (codes "TABLE") rows;

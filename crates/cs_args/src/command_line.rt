@@ -31,7 +31,7 @@ static NUMBERS: [&str; 8] = [
 ];
 
 /// The arguments at which `-` is standard input.
-static INPUTS: [&str; 11] = [
+static INPUTS: [&str; 12] = [
     "TABLE",
     "DECLS",
     "CERT",
@@ -40,6 +40,7 @@ static INPUTS: [&str; 11] = [
     "anacrontab",
     "declarations",
     "update",
+    "max-from",
     "zone",
     "system",
     "user",
@@ -397,6 +398,7 @@ impl<'a, 'm> Given<'a, 'm> {
             max: self.number("max", 60),
             anacrontab: self.value("anacrontab"),
             update: self.value("update"),
+            maxes: self.value("max-from"),
         }
     }
 
@@ -409,7 +411,6 @@ impl<'a, 'm> Given<'a, 'm> {
             table: self.text("TABLE", ""),
             logs: self.values("LOG")?,
             factor: self.text("factor", "1.5"),
-            update: self.value("update"),
         })
     }
 

@@ -152,6 +152,8 @@ pub struct DraftWords<'a> {
     pub anacrontab: Option<&'a str>,
     /// The path of the declarations to update.
     pub update: Option<&'a str>,
+    /// The path of a text that gives the longest times of jobs.
+    pub maxes: Option<&'a str>,
 }
 
 /// What `learn` is asked.
@@ -163,8 +165,6 @@ pub struct LearnWords<'a> {
     pub logs: Vec<&'a str>,
     /// By how much a longest time is to be longer than the longest run, as it is written.
     pub factor: &'a str,
-    /// The path of the declarations to update.
-    pub update: Option<&'a str>,
 }
 
 /// What `lint` is asked.

@@ -47,8 +47,6 @@ const FROM: Argument = Argument("from", Value("M"), texts::FROM_HELP);
 
 const TO: Argument = Argument("to", Value("M"), texts::TO_HELP);
 
-const UPDATE: Argument = Argument("update", Value("OLD"), texts::UPDATE_HELP);
-
 static JUDGE: [Argument; 3] = [TABLE, DECLS, ANACRONTAB];
 
 static CHECK: [Argument; 4] = [TABLE, DECLS, CERT, ANACRONTAB];
@@ -94,18 +92,18 @@ static GATHER: [Argument; 3] = [
     Argument("user", Values("FILE"), texts::USER_HELP),
 ];
 
-static DRAFT: [Argument; 4] = [
+static DRAFT: [Argument; 5] = [
     TABLE,
     ANACRONTAB,
     Argument("max", Value("N"), texts::DRAFT_MAX_HELP),
-    UPDATE,
+    Argument("update", Value("OLD"), texts::UPDATE_HELP),
+    Argument("max-from", Value("FILE"), texts::MAX_FROM_HELP),
 ];
 
-static LEARN: [Argument; 4] = [
+static LEARN: [Argument; 3] = [
     TABLE,
     Argument("LOG", Words, texts::LOG_HELP),
     Argument("factor", Value("F"), texts::FACTOR_HELP),
-    UPDATE,
 ];
 
 static LINT: [Argument; 7] = [

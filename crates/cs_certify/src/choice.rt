@@ -4,15 +4,16 @@ use crate::kinds::{Classed, NUMBERS, Numbers, Possible, number_in};
 use cs_daytree::KindPart;
 use std::alloc::{AllocError, Global};
 
-/// With so many splits left the numbers of a part are halved: then 4 splits on months, 5 on days and 3 on weekdays leave one
-/// kind, so that a tree never is too deep.
+/// With so many splits left the numbers of a part are halved: then 4 splits on months, 5 on days
+/// and 3 on weekdays leave one kind, so that a tree never is too deep.
 const HALVING_SPLITS: u8 = 12;
 
 /// Of more groups than that none is tried alone.
 const MOST_GROUPS: usize = 16;
 
-/// How good a split is: of two the lesser is the better one. First the number of classes inside and outside together: the less,
-/// the fewer stand on both sides. Then those of the side that has more of them, and then how many numbers the split lists.
+/// How good a split is: of two the lesser is the better one. First the number of classes inside
+/// and outside together: the less, the fewer stand on both sides. Then those of the side that has
+/// more of them, and then how many numbers the split lists.
 type Rank = (u32, u32, u32);
 
 /// A split: the kinds with one of these numbers there go inside.
@@ -112,7 +113,8 @@ fn fewer(numbers: Numbers, possible: Numbers) -> Numbers {
     }
 }
 
-/// The numbers of a part that a split of these kinds may list, with so many splits left; none where they needn't be told apart.
+/// The numbers of a part that a split of these kinds may list, with so many splits left; none
+/// where they needn't be told apart.
 fn candidates(
     alloc: Global,
     kinds: &[Classed],
@@ -141,7 +143,8 @@ fn candidates(
     Ok(found)
 }
 
-/// The best split of these kinds where these numbers are possible and so many splits are left; none where they have one class.
+/// The best split of these kinds where these numbers are possible and so many splits are left;
+/// none where they have one class.
 pub(crate) fn best_choice(
     alloc: Global,
     tally: &mut Tally,

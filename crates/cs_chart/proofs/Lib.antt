@@ -1,4 +1,3 @@
 pub mod Shown
-pub mod Plain
 pub mod Joined
-pub mod Rows
+pub mod Drawn

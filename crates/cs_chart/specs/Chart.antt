@@ -1,7 +1,6 @@
 -- What a picture shows of the jobs of two tables, or of a plan.
-use Rattle.std.specs.Prelude.{◌≡◌, ℕ, ◌+◌, ◌-◌, ◌*◌, ◌==◌, ◌^◌, ◌≤◌, min, true, List, [], ◌∷◌, ◌++◌, length, map, Option, None, Some}
+use Rattle.std.specs.Prelude.{◌≡◌, ℕ, ◌+◌, ◌-◌, ◌*◌, ◌==◌, ◌^◌, min, List, [], ◌∷◌, ◌++◌, codes, decimal, flat_map, length, map, nat_lt, if◌then◌else◌, Option, None, Some, option_map}
 use Rattle.cs_civil.specs.Calendar.{Kind}
-use Rattle.cs_civil.specs.declared.minute.TheConstants.{MINUTES_OF_DAY}
 use Rattle.cs_schedule.specs.Times.{is_due}
 use Rattle.cs_crontab.specs.Crontab.{Table}
 use Rattle.cs_crontab.specs.declared.table.When.{When}
@@ -9,10 +8,12 @@ use Rattle.cs_crontab.specs.declared.table.When.TheVariants.{At, Reboot}
 use Rattle.cs_anacrontab.specs.Anacrontab.{Table as JobTable}
 use Rattle.cs_history.specs.Lists.{below}
 use Rattle.cs_plan.specs.Plan.{Declared, command_of, crons, job_at}
+use Rattle.cs_windows.specs.Occupied.{job_of}
 use Rattle.cs_windows.specs.Windows.{Job}
+use Rattle.cs_chart.specs.declared.bar.Bar.{Bar}
+use Rattle.cs_chart.specs.declared.row.Row.{Row}
 use Rattle.cs_chart.specs.declared.row.Terms.{Terms}
 use Rattle.cs_chart.specs.Bars.{AreBarsOf, Days, is_held}
-use Rattle.cs_chart.specs.Picture.{Draws, Plot, Row, has_no_bars}
 
 -- windows begin where a command is due (crontab(5))
 abbrev pub windows_of : When → ℕ → Option (Job Kind)
@@ -44,30 +45,28 @@ jobs_of_plan d =
     ++ map (λ j. windows_of_anacron (terms_at d (crons d + j)))
     (below (length d.anacrontab.lines))
 
--- the bars are those of the job's windows; gaps of fewer minutes than two for each day may be closed
-pub record ArePlotted (days : Days) (job : Job Kind) (plot : Plot) : Type 0 where
-  pub minutes : plot.minutes ≡ MINUTES_OF_DAY * days.days
-  pub colour : has_no_bars plot.colour ≡ true
-  pub bars : AreBarsOf (is_held days job) (2 * days.days) plot.bars
+-- the windows of the job of a row
+abbrev pub shown_of : Row → Option (Job Kind)
+shown_of row = option_map job_of row.occupied
 
--- a job that is started at reboot has no bars
-abbrev pub IsPlotOf : Days → Option (Job Kind) → Option Plot → Type 0
-IsPlotOf days None None = Unit {0}
-IsPlotOf days None (Some plot) = ⊥
-IsPlotOf days (Some job) None = ⊥
-IsPlotOf days (Some job) (Some plot) = ArePlotted days job plot
+-- `M60 9h30`, a line along the middle of a row: from minute 60 on, over 30 minutes
+abbrev pub bar_text : Bar → List ℕ
+bar_text bar =
+    if nat_lt bar.from bar.to
+    then 77 ∷ (decimal bar.from ++ (codes " 9h" ++ decimal (bar.to - bar.from)))
+    else []
 
--- the rows are those of the jobs, in this order, each at least 18 below the one before
-unfoldable pub AreRowsOf : Days → ℕ → List (Option (Job Kind)) → List Row → Type 0
-AreRowsOf days top [] [] = Unit {0}
-AreRowsOf days top [] (row ∷ rows) = ⊥
-AreRowsOf days top (job ∷ jobs) [] = ⊥
-AreRowsOf days top (job ∷ jobs) (row ∷ rows) = IsPlotOf days job row.plot × (top ≤ row.top)
-    × AreRowsOf days (row.top + 18) jobs rows
+-- bars in a colour
+abbrev pub bars_text : List ℕ → List Bar → List ℕ
+bars_text colour bars = codes "<path class=\"bars\" stroke=\"" ++ (colour
+    ++ (codes "\" stroke-width=\"10\" d=\"" ++ (flat_map bar_text bars ++ codes "\"/>")))
 
--- the text is a picture of the jobs with these windows: it has their rows, and no other bars
-pub record IsPictureOf (days : Days) (jobs : List (Option (Job Kind))) (text : List ℕ) : Type 0
-  where
-    pub rows : List Row
-    pub of_jobs : AreRowsOf days 0 jobs rows
-    pub drawn : Draws text rows
+-- The bars of the jobs stand in the text, in this order, each in a colour as `#E69F00`: they are
+-- those of the job's windows, and gaps of fewer minutes than two for each day may be closed. A job
+-- that is started at reboot has none.
+unfoldable pub IsPictureOf : Days → List (Option (Job Kind)) → List ℕ → Type 0
+IsPictureOf days [] text = Unit {0}
+IsPictureOf days (None ∷ jobs) text = IsPictureOf days jobs text
+IsPictureOf days (Some job ∷ jobs) text = (bars : List Bar) × (colour before behind : List ℕ)
+    × AreBarsOf (is_held days job) (2 * days.days) bars × (length colour ≡ 7)
+    × (text ≡ before ++ (bars_text colour bars ++ behind)) × IsPictureOf days jobs behind

@@ -1,163 +1,124 @@
 //! The subcommand `chart`.
-ghost use Rattle.std.specs.Prelude.{◌≢◌, IfErr, IfOk};
+ghost use Rattle.std.specs.Prelude.{◌≡◌, ◌≢◌, IfErr, IfOk, map};
 ghost use Rattle.cs_args.specs.Asked.{asked_chart};
 ghost use Rattle.cs_io.specs.Files.{AreReadInTurn, IsFresh};
-ghost use Rattle.cs_files.specs.RanOut.{IsWarned};
-ghost use Rattle.cs_files.specs.Trouble.{CameTo, IsHonest, IsHonestOf};
-ghost use Rattle.cs_files.specs.Turn.{chart_paths, some_path};
-ghost use Rattle.cs_chart.specs.Chart.{jobs_of_plan, jobs_of_tables};
-ghost use Rattle.cs_chart.specs.Answer.{AnswersChart, Charts, ChartsTables, IsPicture, terms_of};
+ghost use Rattle.cs_files.specs.Asked.{Tells, Warns};
+ghost use Rattle.cs_files.specs.Ending.{sink};
+ghost use Rattle.cs_files.specs.Trouble.{CameTo, IsHonestOf};
+ghost use Rattle.cs_files.specs.Turn.{chart_paths};
+ghost use Rattle.cs_chart.specs.Chart.{shown_of};
+ghost use Rattle.cs_chart.specs.Answer.{FindsDrawable, IsDrawn, jobs_of};
 
-use crate::picture::{Subject, chart as table_picture, plan_chart};
-use crate::row::Terms;
-use cs_anacrontab::Anacrontab;
+use crate::heading::{terms_text, title};
+use crate::meeting::meetings_of;
+use crate::picture::{Scene, draw};
+use crate::row::{Row, Terms, plan_rows, table_rows};
+use crate::span::DaySpan;
 use cs_args::{ChartWords, Question};
-use cs_civil::Bytes;
-use cs_crontab::Crontab;
-use cs_files::{Fault, RanOut, Response, declared_plan_from, read_placed_tables};
-use cs_io::Inputs;
+use cs_civil::{Bytes, Sequence};
+use cs_files::{Fault, Response, Tables, declared_plan_from, find_tables};
+use cs_io::{Inputs, Output};
 use cs_place::Place;
 use cs_plan::Plan;
-use cs_report::warnings;
 use std::alloc::{AllocError, Global};
 
-/// What the picture calls the tables, and where their lines come from.
-fn subject<'a>(request: &ChartWords<'a>, places: &'a [Place]) -> Subject<'a> {
-    let name = if request.day.table == "-" {
-        b"standard input".as_slice()
-    } else {
-        request.day.table.as_bytes()
-    };
-    Subject { name, places }
+/// What a picture is drawn of.
+#[derive(Drop)]
+pub enum Drawable {
+    /// Both tables, with one longest time for all jobs.
+    Tables(Tables),
+    /// The plan that declarations make of them, and the places of the crontab's lines.
+    Plan(Plan, Sequence<Place>),
 }
 
-/// The picture of both tables, with one longest time for all jobs.
-fn show_tables(
-    alloc: Global,
-    request: &ChartWords<'_>,
-    question: Question,
-    table: &Crontab,
-    jobs: &Anacrontab,
-    places: &[Place],
-) -> Result<Response, AllocError>
-    ensures { IfOk result (IsPicture question request.now.days
-        (jobs_of_tables (terms_of question) table.now jobs.now)) }
-{
-    let hours = question.hours();
-    let terms = Terms {
-        max: question.max(),
-        from: hours.from(),
-        to: hours.to(),
-    };
-    let day = question.day();
-    let subject = subject(request, places);
-    let picture = table_picture(alloc, &subject, table, jobs, terms, day, request.days)?;
-    Ok(Response::done(picture.into_bytes(), Bytes::new(alloc)))
-}
-
-/// The picture of a plan.
-fn show_plan(
-    alloc: Global,
-    request: &ChartWords<'_>,
-    question: Question,
-    plan: &Plan,
-    places: &[Place],
-) -> Result<Response, AllocError>
-    ensures { IfOk result (IsPicture question request.now.days (jobs_of_plan plan.now)) }
-{
-    let subject = subject(request, places);
-    let picture = plan_chart(alloc, &subject, plan, question.day(), request.days)?;
-    Ok(Response::done(picture.into_bytes(), Bytes::new(alloc)))
-}
-
-/// What is answered once both tables were read.
-#[tactic(auto, using(cs_files::proofs::TurnLemmas::none_read, cs_files::proofs::TurnLemmas::first_read))]
-fn drawn<'a, I: Inputs>(
+/// Reads both tables and then the declarations, if there are any, and writes to standard error what is
+/// to be warned of the tables.
+pub fn find_drawable<'a, I: Inputs, E: Output>(
     alloc: Global,
     inputs: &mut I,
-    request: &ChartWords<'a>,
-    question: Question,
-    table: Crontab,
-    jobs: Anacrontab,
-    places: &[Place],
-) -> Result<Response, Fault<'a>>
-    ensures step { IsFresh (I.whole inputs.old) (I.left inputs.old)
-        → CameTo (Charts question (asked_chart request.now).days (I.whole inputs.old)
-        (asked_chart request.now).declarations (table, jobs)
-        (I.failed inputs.old) (I.failed inputs.new)) result }
+    err: &mut E,
+    words: &ChartWords<'a>,
+) -> Result<Drawable, Fault<'a>>
+    ensures value { IsFresh (I.whole inputs.old) (I.left inputs.old)
+        → Tells (λ w. Warns (I.whole inputs.old) (asked_chart words.now).day.table
+        (asked_chart words.now).day.anacrontab (I.failed inputs.old)
+        (I.reads inputs.old) (I.reads inputs.new) w
+        × CameTo (FindsDrawable (asked_chart words.now) (I.whole inputs.old) w
+        (I.failed inputs.old) (I.failed inputs.new)) result)
+        (sink (E.contents err.old) (E.failed err.old))
+        (sink (E.contents err.new) (E.failed err.new)) }
     ensures status { IfErr result (IsHonestOf (I.failed inputs.new) (I.reads inputs.new)) }
-    ensures turn { AreReadInTurn (some_path (asked_chart request.now).declarations)
+    ensures turn { AreReadInTurn (chart_paths (asked_chart words.now))
         (I.reads inputs.old) (I.reads inputs.new) }
+{
+    let tables = find_tables(alloc, inputs, err, words.day.table, words.day.anacrontab)?;
+    let Some(path) = words.declarations else {
+        return Ok(Drawable::Tables(tables));
+    };
+    let Tables {
+        crontab,
+        jobs,
+        places,
+        ..
+    } = tables;
+    let plan = declared_plan_from(alloc, inputs, path, crontab, jobs)?;
+    Ok(Drawable::Plan(plan, places))
+}
+
+/// The rows of the jobs.
+fn rows_of<'a>(
+    alloc: Global,
+    question: Question,
+    found: &'a Drawable,
+) -> Result<Vec<Row<'a>>, AllocError>
+    ensures { IfOk result (λ rows. map shown_of rows.items ≡ jobs_of question found.now) }
+{
+    match found {
+        Drawable::Tables(tables) => {
+            let hours = question.hours();
+            let terms = Terms {
+                max: question.max(),
+                from: hours.from(),
+                to: hours.to(),
+            };
+            let (table, jobs) = (&tables.crontab, &tables.jobs);
+            table_rows(alloc, table, jobs, tables.places.as_slice(), terms)
+        }
+        Drawable::Plan(plan, places) => plan_rows(alloc, plan, places.as_slice()),
+    }
+}
+
+/// Answers `chart TABLE DATE [MAX] [--anacrontab FILE] [--from M] [--to M] [--days N]
+/// [--declarations FILE]`: the picture of both tables, with one longest time for all jobs, or of the plan
+/// that declarations make of them. Days before 1970-01-04 and past 9999-12-31 are left out. The only error
+/// is want of memory.
+pub fn answer_chart(
+    alloc: Global,
+    request: &ChartWords<'_>,
+    question: Question,
+    found: &Drawable,
+) -> Result<Response, AllocError>
+    ensures drawn { IfOk result (IsDrawn question request.now.days found.now) }
     ensures done { IfOk result (λ r. r.status ≢ 6) }
 {
-    match request.declarations {
-        Some(path) => {
-            let plan = declared_plan_from(alloc, inputs, path, table, jobs)?;
-            Ok(show_plan(alloc, request, question, &plan, places)?)
-        }
-        None => Ok(show_tables(alloc, request, question, &table, &jobs, places)?),
-    }
-}
-
-/// What is answered of a question.
-fn chart_tables<I: Inputs>(
-    alloc: Global,
-    request: &ChartWords<'_>,
-    question: Question,
-    inputs: &mut I,
-) -> Result<Response, RanOut>
-    ensures value { IsFresh (I.whole inputs.old) (I.left inputs.old)
-        → IfOk result (ChartsTables question (asked_chart request.now) (I.whole inputs.old)
-        (I.failed inputs.old) (I.failed inputs.new)) }
-    ensures status { IfOk result (IsHonest (I.failed inputs.new) (I.reads inputs.new)) }
-    ensures warned { IsFresh (I.whole inputs.old) (I.left inputs.old)
-        → IfErr result (λ e. IsWarned (I.whole inputs.old) (asked_chart request.now).day.table
-        (asked_chart request.now).day.anacrontab (I.failed inputs.old)
-        (I.reads inputs.old) (I.reads inputs.new) e.warnings) }
-    ensures turn { AreReadInTurn (chart_paths (asked_chart request.now))
-        (I.reads inputs.old) (I.reads inputs.new) }
-{
-    let words = &request.day;
-    let (tables, places) = match read_placed_tables(alloc, inputs, words.table, words.anacrontab) {
-        Ok(found) => found,
-        Err(fault) => return Ok(fault.response(alloc, b"".as_slice())?),
+    let span = DaySpan::new(question.day(), request.days);
+    let rows = rows_of(alloc, question, found)?;
+    let title = title(alloc, request.day.table, span)?;
+    let terms = terms_text(alloc, question, found)?;
+    let meetings = meetings_of(alloc, rows.as_slice(), span)?;
+    let plan = match found {
+        Drawable::Tables(_) => None,
+        Drawable::Plan(plan, _) => Some(plan),
     };
-    let (table, jobs) = tables;
-    let warnings = warnings(alloc, &table, &jobs)?;
-    match drawn(
-        alloc,
-        inputs,
-        request,
-        question,
-        table,
-        jobs,
-        places.as_slice(),
-    ) {
-        Ok(answer) => answer.behind(warnings),
-        Err(fault) => fault.response_behind(alloc, warnings),
-    }
-}
-
-/// The answer to `chart TABLE DATE [MAX] [--anacrontab FILE] [--from M] [--to M] [--days N]
-/// [--declarations FILE]`.
-pub fn answer_chart<I: Inputs>(
-    alloc: Global,
-    request: &ChartWords<'_>,
-    inputs: &mut I,
-) -> Result<Response, RanOut>
-    ensures value { IsFresh (I.whole inputs.old) (I.left inputs.old)
-        → IfOk result (AnswersChart (asked_chart request.now) (I.whole inputs.old)
-        (I.failed inputs.old) (I.failed inputs.new)) }
-    ensures status { IfOk result (IsHonest (I.failed inputs.new) (I.reads inputs.new)) }
-    ensures warned { IsFresh (I.whole inputs.old) (I.left inputs.old)
-        → IfErr result (λ e. IsWarned (I.whole inputs.old) (asked_chart request.now).day.table
-        (asked_chart request.now).day.anacrontab (I.failed inputs.old)
-        (I.reads inputs.old) (I.reads inputs.new) e.warnings) }
-    ensures turn { AreReadInTurn (chart_paths (asked_chart request.now))
-        (I.reads inputs.old) (I.reads inputs.new) }
-{
-    match Question::new(&request.day) {
-        Ok(question) => chart_tables(alloc, request, question, inputs),
-        Err(fault) => Ok(Fault::Words(fault).response(alloc, b"".as_slice())?),
-    }
+    let scene = Scene {
+        title: title.as_str(),
+        terms: terms.as_str(),
+        rows: rows.as_slice(),
+        meetings: meetings.as_slice(),
+        plan,
+        span,
+        days: request.days,
+    };
+    let picture = draw(alloc, &scene)?;
+    Ok(Response::done(picture.into_bytes(), Bytes::new(alloc)))
 }

@@ -1,11 +1,11 @@
 //! The dates and hours along a picture, and the lines below them.
 ghost use Rattle.std.specs.Prelude.{◌≤◌};
 
-use crate::sheet::{HOURS, PLOT_LEFT, PLOT_WIDTH, Sheet, place_of};
+use crate::sheet::{HOURS, PLOT_LEFT, PLOT_WIDTH, ROWS_OF_HOURS, Sheet, begin_plot, place_of};
 use crate::span::DaySpan;
-use crate::text::{push_day, push_pair};
+use crate::text::push_day;
 use cs_civil::MINUTES_OF_DAY;
-use std::alloc::AllocError;
+use std::alloc::{AllocError, Global};
 use std::fmt::Write;
 
 const MINUTES_OF_HOUR: u32 = 60;
@@ -30,9 +30,7 @@ fn push_numbers(text: &mut String, span: DaySpan, y: u32) -> Result<(), AllocErr
         let hour = apart * count;
         let x = place_of(MINUTES_OF_HOUR * hour, span);
         let named = if hour == hours { 24 } else { hour % 24 };
-        write!(text, "<text x=\"{x}\" y=\"{y}\">")?;
-        push_pair(text, named as u16)?;
-        text.push_str("</text>")?;
+        write!(text, "<text x=\"{x}\" y=\"{y}\">{named:02}</text>")?;
     }
     Ok(())
 }
@@ -61,19 +59,26 @@ pub(crate) fn push_hours(text: &mut String, span: DaySpan, top: u32) -> Result<(
     text.push_str("\n</g>\n")
 }
 
-/// Adds the hours between rows. The lines of the hours don't go through their numbers.
-pub(crate) fn push_hours_between(
-    text: &mut String,
+/// What stands above a row, by its number from 0: the hours, if 40 rows stand above it or twice as many
+/// and so on. The lines of the hours don't go through their numbers.
+pub(crate) fn hours_above(
+    alloc: Global,
     span: DaySpan,
-    top: u32,
-) -> Result<(), AllocError> {
-    write!(
-        text,
-        "<g class=\"hours\" font-family=\"sans-serif\">\
-         <rect x=\"{PLOT_LEFT}\" y=\"{top}\" width=\"{PLOT_WIDTH}\" height=\"{HOURS}\" fill=\"#FFF\"/>\n"
-    )?;
-    push_hours(text, span, top)?;
-    text.push_str("</g>\n")
+    place: usize,
+    y: u32,
+) -> Result<String, AllocError> {
+    let mut text = String::new(alloc);
+    if 0 < place && place % (ROWS_OF_HOURS as usize) == 0 {
+        let top = y.saturating_sub(HOURS);
+        write!(
+            text,
+            "<g class=\"hours\" font-family=\"sans-serif\">\
+             <rect x=\"{PLOT_LEFT}\" y=\"{top}\" width=\"{PLOT_WIDTH}\" height=\"{HOURS}\" fill=\"#FFF\"/>\n"
+        )?;
+        push_hours(&mut text, span, top)?;
+        text.push_str("</g>\n")?;
+    }
+    Ok(text)
 }
 
 /// Adds lines from top to foot, so many hours apart.
@@ -96,7 +101,7 @@ fn push_lines(text: &mut String, span: DaySpan, apart: u32, colour: &str) -> Res
 /// Adds the lines of the hours and of the days over what is drawn next, so high.
 pub(crate) fn push_grid(sheet: &mut Sheet, span: DaySpan, height: u32) -> Result<(), AllocError> {
     let apart = hours_apart(span.days());
-    sheet.begin_plot(span, height, 1)?;
+    begin_plot(&mut sheet.text, span, sheet.y, height, 1)?;
     push_lines(&mut sheet.text, span, apart, "#DDD")?;
     push_lines(&mut sheet.text, span, 24, "#888")?;
     sheet.text.push_str("</svg>\n")

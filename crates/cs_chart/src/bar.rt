@@ -1,15 +1,18 @@
 //! The bars of a job: its windows, joined where they touch.
-ghost use Rattle.std.specs.Prelude.{◌≡◌, ◌≤◌, ◌||◌, ℕ, [], ◌∷◌, IfOk, OnOk};
+ghost use Rattle.std.specs.Prelude.{◌≡◌, ◌≤◌, ◌||◌, ◌++◌, ℕ, [], ◌∷◌, IfOk, OnOk, codes, flat_map};
+ghost use Rattle.std.specs.Prelude.{string_bytes};
 ghost use Rattle.cs_windows.specs.Occupied.{job_of};
 ghost use Rattle.cs_chart.specs.Bars.{covers, is_covered, is_held, is_held_on};
+ghost use Rattle.cs_chart.specs.Chart.{bar_text};
 
 use crate::span::DaySpan;
 use cs_civil::{MINUTES_OF_DAY, four_days};
 use cs_windows::{Occupied, Window, windows_on};
 use std::alloc::{AllocError, Global};
+use std::fmt::Write;
 
 /// Minutes of the picture, from one on and below another, counted from the start of its first day.
-#[derive(Clone, Copy, PartialEq, Eq)]
+#[derive(Clone, Copy)]
 pub(crate) struct Bar {
     pub(crate) from: u32,
     pub(crate) to: u32,
@@ -82,4 +85,20 @@ pub(crate) fn bars_of(
         add_windows(&mut bars, windows.as_slice(), start)?;
     }
     Ok(bars)
+}
+
+/// Adds lines along a row, from the beginning of each bar to its end, behind how their element begins.
+pub(crate) fn push_stretches(text: &mut String, start: &str, bars: &[Bar]) -> Result<(), AllocError>
+    ensures { OnOk result (string_bytes text.new ≡ string_bytes text.old
+        ++ (start.now ++ (flat_map bar_text bars.now ++ codes "\"/>"))) }
+{
+    text.push_str(start)?;
+    for bar in bars {
+        let from = bar.from;
+        if from < bar.to {
+            let length = bar.to - from;
+            write!(text, "M{from} 9h{length}")?;
+        }
+    }
+    text.push_str("\"/>")
 }

@@ -1,10 +1,11 @@
 //! The heading of a picture: what it shows, and what its colours and marks mean.
+use crate::answer::Drawable;
 use crate::look::push_swatch;
-use crate::row::Terms;
 use crate::sheet::{MARGIN, Sheet};
 use crate::span::DaySpan;
-use crate::text::{push_cut, push_day, push_label, push_pair};
-use cs_plan::{Group, Plan};
+use crate::text::{push_cut, push_day, push_label};
+use cs_args::Question;
+use cs_plan::Group;
 use std::alloc::{AllocError, Global};
 use std::fmt::Write;
 
@@ -20,57 +21,47 @@ const GROUP_WIDTH: u32 = 148;
 const KEY_LINE: u32 = 18;
 
 /// The title: the table, and the days.
-pub(crate) fn title(alloc: Global, subject: &[u8], span: DaySpan) -> Result<String, AllocError> {
+pub(crate) fn title(alloc: Global, table: &str, span: DaySpan) -> Result<String, AllocError> {
     let mut title = String::new(alloc);
-    push_cut(&mut title, subject, SUBJECT_CELLS)?;
+    let name = if table == "-" {
+        "standard input"
+    } else {
+        table
+    };
+    push_cut(&mut title, name.as_bytes(), SUBJECT_CELLS)?;
     title.push_str(": ")?;
     push_day(&mut title, span.day(0))?;
     if 1 < span.days() {
         title.push_str(" to ")?;
-        push_day(&mut title, span.last())?;
+        push_day(&mut title, span.day(span.days() - 1))?;
     }
     Ok(title)
 }
 
-/// Adds the catch-up hours: `, catch-up from 05:00 to 24:00`.
-fn push_hours(text: &mut String, from: u16, to: u16) -> Result<(), AllocError> {
-    for (words, minute) in [(", catch-up from ", from), (" to ", to)] {
-        text.push_str(words)?;
-        push_pair(text, minute / 60)?;
-        text.push_str(":")?;
-        push_pair(text, minute % 60)?;
+/// What holds of all jobs together: `each run takes at most 60 min, catch-up from 05:00 to 24:00`.
+pub(crate) fn terms_text(
+    alloc: Global,
+    question: Question,
+    found: &Drawable,
+) -> Result<String, AllocError> {
+    let mut text = String::from_str(alloc, "each run takes at most ")?;
+    let hours = match found {
+        Drawable::Tables(_) => {
+            let max = question.max();
+            write!(text, "{max} min")?;
+            question.hours()
+        }
+        Drawable::Plan(plan, _) => {
+            let capacity = plan.capacity();
+            write!(text, "its job's declared time, capacity {capacity}")?;
+            plan.hours()
+        }
+    };
+    for (words, minute) in [(", catch-up from ", hours.from()), (" to ", hours.to())] {
+        let (hour, minute) = (minute / 60, minute % 60);
+        write!(text, "{words}{hour:02}:{minute:02}")?;
     }
-    Ok(())
-}
-
-/// What holds of all jobs of which nothing is declared.
-pub(crate) fn terms_text(alloc: Global, terms: Terms) -> Result<String, AllocError> {
-    let max = terms.max;
-    let mut text = format!(in alloc; "each run takes at most {max} min")?;
-    push_hours(&mut text, terms.from, terms.to)?;
     Ok(text)
-}
-
-/// What is declared of all jobs together.
-pub(crate) fn plan_text(alloc: Global, plan: &Plan) -> Result<String, AllocError> {
-    let capacity = plan.capacity();
-    let mut text = format!(in alloc;
-        "each run takes at most its job's declared time, capacity {capacity}"
-    )?;
-    push_hours(&mut text, plan.hours().from(), plan.hours().to())?;
-    Ok(text)
-}
-
-/// Adds the title and the line below it, and goes below both.
-pub(crate) fn push_title(sheet: &mut Sheet, title: &str, terms: &str) -> Result<(), AllocError> {
-    let y = sheet.below(26);
-    write!(
-        sheet.text,
-        "<text x=\"{MARGIN}\" y=\"{y}\" font-size=\"16\" font-weight=\"bold\">{title}</text>\n"
-    )?;
-    sheet.push_line(44, terms)?;
-    sheet.down(50);
-    Ok(())
 }
 
 /// Adds what bars and marks mean, and goes below that.

@@ -1,32 +1,29 @@
 //! The row of a job: its name, its bars and its marks.
-ghost use Rattle.std.specs.Prelude.{◌≤◌, OnOk, Some};
-ghost use Rattle.cs_windows.specs.Occupied.{job_of};
-ghost use Rattle.cs_chart.specs.Rows.{AddsRowOf, shown_of};
+ghost use Rattle.std.specs.Prelude.{[], ◌∷◌, IfOk, OnOk, string_bytes};
+ghost use Rattle.cs_chart.specs.Chart.{IsPictureOf, shown_of};
 
-use crate::bar::{Bar, bars_of};
-use crate::load::Load;
+use crate::bar::{Bar, bars_of, push_stretches};
+use crate::load::{Found, add_weight};
 use crate::look::{colour_of, push_lines};
 use crate::marks::{marks_of, without_gaps};
 use crate::meeting::Meeting;
 use crate::row::{Name, Row};
-use crate::sheet::{MARGIN, NAME_CELLS, PLOT_LEFT, PLOT_RIGHT};
+use crate::sheet::{MARGIN, NAME_CELLS, PLOT_LEFT, PLOT_RIGHT, ROW, begin_plot};
 use crate::span::DaySpan;
-use crate::svg::{Svg, push_path};
 use crate::text::{push_cut, push_label};
 use cs_command::program_text;
 use cs_history::Mode;
-use cs_plan::Group;
 use cs_windows::Occupied;
 use std::alloc::{AllocError, Global};
 use std::fmt::Write;
 
-/// What a row shows beside its job.
+/// Where a row stands, and what it shows beside its job.
 #[derive(Clone, Copy)]
 pub(crate) struct Beside<'a> {
     pub(crate) span: DaySpan,
-    /// The groups that are declared.
-    pub(crate) groups: &'a [Group],
-    /// What the windows of the job meet, where that is looked for.
+    /// How far down the row begins.
+    pub(crate) top: u32,
+    /// What the windows of the job meet.
     pub(crate) meeting: Option<&'a Meeting<'a>>,
 }
 
@@ -89,14 +86,10 @@ fn mode_text(mode: Mode) -> &'static str {
     }
 }
 
-/// The group of a job, if it is in one.
-fn group_of<'a>(row: &Row<'_>, groups: &'a [Group]) -> Option<&'a Group> {
-    groups.get(usize::from(row.group()?))
-}
-
-/// Adds the name of a job, and where its line comes from, if it is one of a gathered table:
-/// `line 5 /usr/bin/backup from /etc/cron.d/munin:12 (munin)`.
-fn push_full_name(text: &mut String, row: &Row<'_>) -> Result<(), AllocError> {
+/// Adds what a reader is told who points at the row: the name of the job, and where its line comes from,
+/// if it is one of a gathered table, as `line 5 /usr/bin/backup from /etc/cron.d/munin:12 (munin)`, and
+/// what is declared of it.
+fn push_told(text: &mut String, row: &Row<'_>, beside: &Beside<'_>) -> Result<(), AllocError> {
     let words = match row.name {
         Name::Line(_, command) => command,
         Name::Job(identifier) => identifier,
@@ -109,38 +102,24 @@ fn push_full_name(text: &mut String, row: &Row<'_>) -> Result<(), AllocError> {
         push_cut(text, origin.user.as_slice(), TOLD_CELLS)?;
         text.push_str(")")?;
     }
-    Ok(())
-}
-
-/// Adds what a reader is told who points at the row.
-fn push_told(text: &mut String, row: &Row<'_>, beside: &Beside<'_>) -> Result<(), AllocError> {
     let max = row.max;
-    text.push_str("<title>")?;
-    push_full_name(text, row)?;
     write!(text, ": at most {max} min")?;
     if let Some(job) = row.declared {
         let weight = job.weight;
         write!(text, ", weight {weight}")?;
-        if let Some(group) = group_of(row, beside.groups) {
+        if let Some(group) = job.group {
             text.push_str(", group ")?;
             push_cut(text, group.name(), TOLD_CELLS)?;
         }
         text.push_str(mode_text(job.mode))?;
     }
-    if let Some(meeting) = beside.meeting {
-        push_met_names(text, meeting.names.as_slice())?;
+    match beside.meeting {
+        Some(meeting) => push_met_names(text, meeting.names.as_slice()),
+        None => Ok(()),
     }
-    text.push_str("</title>\n")
 }
 
 // ---- marks over the bars
-
-/// Adds lines along a row, from the beginning of each bar to its end.
-fn push_stretches(text: &mut String, start: &str, bars: &[Bar]) -> Result<(), AllocError> {
-    text.push_str(start)?;
-    push_path(text, bars)?;
-    text.push_str("\"/>")
-}
 
 /// Adds a mark at the first and at the last minute of each bar.
 fn push_ends(text: &mut String, span: DaySpan, bars: &[Bar]) -> Result<(), AllocError> {
@@ -161,128 +140,105 @@ fn push_ends(text: &mut String, span: DaySpan, bars: &[Bar]) -> Result<(), Alloc
 }
 
 /// Adds over the bars of a job the lines of its group, where windows meet others, and the due
-/// minutes of a cron job: a mark for each, or a band from the first to the last of many. Tells
-/// whether some of these are drawn as one.
+/// minutes of a cron job: a mark for each, or a band from the first to the last of many.
 fn push_over(
     alloc: Global,
     text: &mut String,
     row: &Row<'_>,
     occupied: &Occupied<'_>,
     beside: &Beside<'_>,
-) -> Result<bool, AllocError> {
+    found: &mut Found,
+) -> Result<(), AllocError> {
     let span = beside.span;
     push_lines(text, row.group(), 0, 9, span.minutes())?;
     if let Some(meeting) = beside.meeting {
         if !meeting.bars.is_empty() {
+            found.meets = true;
             let start = "<path class=\"meets\" stroke=\"#D55E00\" stroke-width=\"10\" d=\"";
             push_stretches(text, start, meeting.bars.as_slice())?;
         }
     }
     let Occupied::Cron { schedule, reach: _ } = occupied else {
-        return Ok(false);
+        return Ok(());
     };
     let marks = marks_of(alloc, schedule, span, 4 * u32::from(span.days()))?;
     if marks.is_coarse {
+        found.is_coarse = true;
         let start = "<path class=\"many\" stroke=\"#000\" stroke-width=\"3\" d=\"";
         push_stretches(text, start, marks.bars.as_slice())?;
     }
-    if !marks.bars.is_empty() {
-        push_ends(text, span, marks.bars.as_slice())?;
+    if marks.bars.is_empty() {
+        return Ok(());
     }
-    Ok(marks.is_coarse)
+    push_ends(text, span, marks.bars.as_slice())
 }
 
 // ---- the row
 
-/// Adds the bars and marks of a job, and its weight to the load. Tells whether some are drawn as one.
+/// Adds the bars and marks of a job, and its weight to the load; or that it is started at reboot.
 fn push_plot(
     alloc: Global,
-    svg: &mut Svg,
+    text: &mut String,
     row: &Row<'_>,
-    occupied: &Occupied<'_>,
-    top: u32,
     beside: &Beside<'_>,
-    load: &mut Load,
-) -> Result<bool, AllocError>
-    requires { top ≤ 100_000 }
+    found: &mut Found,
+) -> Result<(), AllocError>
     ensures { OnOk result
-        (AddsRowOf beside.now.span (Some (job_of occupied.now)) top svg.old svg.new) }
+        (IsPictureOf beside.now.span (shown_of row.now ∷ []) (string_bytes text.new)) }
 {
-    let span = beside.span;
+    let (span, top) = (beside.span, beside.top);
+    let Some(occupied) = &row.occupied else {
+        push_label(
+            text,
+            PLOT_LEFT + 4,
+            top.saturating_add(13),
+            b"at reboot".as_slice(),
+        )?;
+        return Ok(());
+    };
     let bars = bars_of(alloc, *occupied, span)?;
     if let Some(job) = row.declared {
-        load.add(bars.as_slice(), job.weight);
+        add_weight(found.loads.as_mut_slice(), bars.as_slice(), job.weight);
     }
     let drawn = without_gaps(alloc, bars.as_slice(), 2 * u32::from(span.days()))?;
+    found.is_coarse = found.is_coarse || drawn.is_coarse;
+    begin_plot(text, span, top, ROW, ROW)?;
     let colour = colour_of(row.group());
-    svg.push_bars(top, span.minutes(), colour, drawn.bars.as_slice())?;
+    let start = format!(in alloc;
+        "<path class=\"bars\" stroke=\"{colour}\" stroke-width=\"10\" d=\""
+    )?;
+    push_stretches(text, start.as_str(), drawn.bars.as_slice())?;
     let mut over = String::new(alloc);
-    let is_coarse = push_over(alloc, &mut over, row, occupied, beside)?;
+    push_over(alloc, &mut over, row, occupied, beside, found)?;
     over.push_str("</svg>\n")?;
-    svg.push_str(over.as_str())?;
-    Ok(is_coarse || drawn.is_coarse)
+    text.push_str(over.as_str())?;
+    Ok(())
 }
 
-/// Adds the bars of a job, if it has some.
-fn push_job(
+/// The row of a job. What is found as it is drawn is added to what was.
+pub(crate) fn row_text(
     alloc: Global,
-    svg: &mut Svg,
     row: &Row<'_>,
-    top: u32,
     beside: &Beside<'_>,
-    load: &mut Load,
-) -> Result<bool, AllocError>
-    requires { top ≤ 100_000 }
-    ensures { OnOk result (AddsRowOf beside.now.span (shown_of row.now) top svg.old svg.new) }
-{
-    match &row.occupied {
-        Some(occupied) => {
-            let is_coarse = push_plot(alloc, svg, row, occupied, top, beside, load)?;
-            Ok(is_coarse)
-        }
-        None => Ok(false),
-    }
-}
-
-/// What stands behind the bars: that the job is started at reboot, and the name of its group.
-fn behind_text(
-    alloc: Global,
-    row: &Row<'_>,
-    top: u32,
-    groups: &[Group],
+    found: &mut Found,
 ) -> Result<String, AllocError>
-    requires { top ≤ 100_000 }
+    ensures { IfOk result (λ text.
+        IsPictureOf beside.now.span (shown_of row.now ∷ []) (string_bytes text)) }
 {
-    let mut text = String::new(alloc);
-    if row.occupied.is_none() {
-        push_label(&mut text, PLOT_LEFT + 4, top + 13, b"at reboot".as_slice())?;
+    let y = beside.top.saturating_add(13);
+    let mut text = String::from_str(alloc, "<g class=\"row\"><title>")?;
+    push_told(&mut text, row, beside)?;
+    text.push_str("</title>\n")?;
+    push_name(&mut text, row.name, y)?;
+    push_plot(alloc, &mut text, row, beside, found)?;
+    let mut behind = String::new(alloc);
+    if let Some(job) = row.declared {
+        found.waits = found.waits || job.mode.waits();
+        if let Some(group) = job.group {
+            push_label(&mut behind, PLOT_RIGHT + 8, y, group.name())?;
+        }
     }
-    if let Some(group) = group_of(row, groups) {
-        push_label(&mut text, PLOT_RIGHT + 8, top + 13, group.name())?;
-    }
-    text.push_str("</g>\n")?;
+    behind.push_str("</g>\n")?;
+    text.push_str(behind.as_str())?;
     Ok(text)
-}
-
-/// Adds the row of a job at this height, behind a text. Tells whether something is drawn coarser than it
-/// is.
-pub(crate) fn push_row(
-    alloc: Global,
-    svg: &mut Svg,
-    row: &Row<'_>,
-    top: u32,
-    beside: &Beside<'_>,
-    load: &mut Load,
-) -> Result<bool, AllocError>
-    requires { top ≤ 100_000 }
-    ensures { OnOk result (AddsRowOf beside.now.span (shown_of row.now) top svg.old svg.new) }
-{
-    let mut before = String::from_str(alloc, "<g class=\"row\">")?;
-    push_told(&mut before, row, beside)?;
-    push_name(&mut before, row.name, top + 13)?;
-    svg.push_str(before.as_str())?;
-    let is_coarse = push_job(alloc, svg, row, top, beside, load)?;
-    let behind = behind_text(alloc, row, top, beside.groups)?;
-    svg.push_str(behind.as_str())?;
-    Ok(is_coarse)
 }

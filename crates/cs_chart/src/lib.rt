@@ -15,9 +15,6 @@ mod picture;
 mod row;
 mod sheet;
 mod span;
-mod svg;
 mod text;
 
-pub use answer::answer_chart;
-pub use picture::{Subject, chart, plan_chart};
-pub use row::Terms;
+pub use answer::{Drawable, answer_chart, find_drawable};

@@ -1,6 +1,5 @@
 //! What bars look like.
-ghost use Rattle.std.specs.Prelude.{◌≡◌, true};
-ghost use Rattle.cs_chart.specs.Picture.{has_no_bars};
+ghost use Rattle.std.specs.Prelude.{◌≡◌, length};
 
 use std::alloc::AllocError;
 use std::fmt::Write;
@@ -12,9 +11,8 @@ const COLOURS: u8 = 6;
 /// Ito, which also people who see few colours tell apart ("Color Universal Design", 2008), without their
 /// black, in which due minutes are drawn, and their vermilion, in which the load is drawn that is above
 /// the capacity.
-#[tactic(auto, unfolding(crate::specs::Picture::has_no_bars))]
 pub(crate) fn colour_of(group: Option<u8>) -> &'static str
-    ensures { has_no_bars result.now ≡ true }
+    ensures { length result.now ≡ 7 }
 {
     let Some(place) = group else {
         return "#999999";

@@ -1,5 +1,5 @@
 //! What a picture can show of bars and of due minutes.
-ghost use Rattle.std.specs.Prelude.{◌≡◌, ◌||◌, ℕ, [], Bool, true, All, IfOk, OnOk};
+ghost use Rattle.std.specs.Prelude.{◌≡◌, ◌||◌, ℕ, Bool, true, All, IfOk, OnOk};
 ghost use Rattle.cs_chart.specs.Bars.{AreBarsOf, IsBarOf, covers, is_covered};
 
 use crate::bar::Bar;
@@ -17,16 +17,8 @@ pub(crate) struct Drawn {
 }
 
 impl Drawn {
-    fn new(alloc: Global) -> Drawn
-        ensures { result.bars.items ≡ [] }
-    {
-        Drawn {
-            bars: Vec::new(alloc),
-            is_coarse: false,
-        }
-    }
-
-    /// Adds a bar behind the others; to the last, where there are less than `gap` minutes between both.
+    /// Adds a bar behind the others; to the last, where it begins no sooner than that and there are less
+    /// than `gap` minutes between both.
     fn push(&mut self, bar: Bar, gap: u32) -> Result<(), AllocError>
         ensures whole { OnOk result ((minute : ℕ)
             → (is_covered self.old.bars.items minute || covers bar minute) ≡ true
@@ -38,10 +30,10 @@ impl Drawn {
             self.bars.push(bar)?;
             return Ok(());
         };
-        if bar.from < last.to.saturating_add(gap) && last.from < bar.to.saturating_add(gap) {
+        if last.from <= bar.from && bar.from < last.to.saturating_add(gap) {
             self.is_coarse = true;
             self.bars.push(Bar {
-                from: last.from.min(bar.from),
+                from: last.from,
                 to: last.to.max(bar.to),
             })?;
             return Ok(());
@@ -65,7 +57,10 @@ impl Drawn {
 pub(crate) fn without_gaps(alloc: Global, bars: &[Bar], gap: u32) -> Result<Drawn, AllocError>
     ensures { IfOk result (λ drawn. AreBarsOf (is_covered bars.now) gap drawn.bars.items) }
 {
-    let mut drawn = Drawn::new(alloc);
+    let mut drawn = Drawn {
+        bars: Vec::new(alloc),
+        is_coarse: false,
+    };
     for bar in bars {
         if bar.from < bar.to {
             drawn.push(*bar, gap)?;
@@ -82,7 +77,10 @@ pub(crate) fn marks_of(
     span: DaySpan,
     gap: u32,
 ) -> Result<Drawn, AllocError> {
-    let mut drawn = Drawn::new(alloc);
+    let mut drawn = Drawn {
+        bars: Vec::new(alloc),
+        is_coarse: false,
+    };
     for place in 0..span.days() {
         let due = schedule.minutes_of(kind_of(span.day(place)));
         let start = u32::from(MINUTES_OF_DAY) * u32::from(place);

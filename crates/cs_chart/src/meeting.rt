@@ -4,7 +4,6 @@ ghost use Rattle.std.specs.Prelude.{◌<◌, length};
 use crate::bar::{Bar, add_bar, bars_of};
 use crate::row::{Name, Row};
 use crate::span::DaySpan;
-use cs_plan::Group;
 use std::alloc::{AllocError, Global};
 
 /// What the windows of a job meet.
@@ -25,25 +24,16 @@ struct Holder<'a> {
 
 /// Whether windows of both may not meet: these are of one exclusive group, one of them is of the crontab,
 /// and not both take the group's lock.
-fn clash(groups: &[Group], row: &Row<'_>, other: &Row<'_>) -> bool {
+fn clash(row: &Row<'_>, other: &Row<'_>) -> bool {
     let (Some(own), Some(others)) = (row.declared, other.declared) else {
         return false;
-    };
-    let Some(place) = own.group else {
-        return false;
-    };
-    let is_exclusive = match groups.get(usize::from(place)) {
-        Some(group) => group.is_exclusive(),
-        None => false,
     };
     let is_cron = match (row.name, other.name) {
         (Name::Job(_), Name::Job(_)) => false,
         _ => true,
     };
-    is_exclusive
-        && is_cron
-        && own.group == others.group
-        && !(own.mode.takes_lock() && others.mode.takes_lock())
+    let take_lock = own.mode.takes_lock() && others.mode.takes_lock();
+    own.is_exclusive && own.place == others.place && is_cron && !take_lock
 }
 
 /// Marks the minutes of a bar.
@@ -56,14 +46,18 @@ fn mark(marks: &mut [u64], bar: Bar) {
     }
 }
 
-/// The minutes of the picture that the windows of a row hold.
+/// The minutes of the picture that the windows of a row hold; none where its group isn't exclusive.
 fn held_minutes(alloc: Global, row: &Row<'_>, span: DaySpan) -> Result<Vec<u64>, AllocError> {
+    let (Some(declared), Some(occupied)) = (row.declared, row.occupied) else {
+        return Ok(Vec::new(alloc));
+    };
+    if !declared.is_exclusive {
+        return Ok(Vec::new(alloc));
+    }
     let mut marks = vec![in alloc; 0; span.minutes().div_ceil(64) as usize]?;
-    if let Some(occupied) = row.occupied {
-        let bars = bars_of(alloc, occupied, span)?;
-        for bar in bars.as_slice() {
-            mark(marks.as_mut_slice(), *bar);
-        }
+    let bars = bars_of(alloc, occupied, span)?;
+    for bar in bars.as_slice() {
+        mark(marks.as_mut_slice(), *bar);
     }
     Ok(marks)
 }
@@ -81,10 +75,11 @@ fn mark_common(marks: &mut [u64], one: &[u64], other: &[u64]) -> bool {
     is_found
 }
 
-/// The bars of the marked minutes below this one.
-fn bars_of_marks(alloc: Global, marks: &[u64], minutes: u32) -> Result<Vec<Bar>, AllocError> {
+/// The bars of the marked minutes.
+fn bars_of_marks(alloc: Global, marks: &[u64]) -> Result<Vec<Bar>, AllocError> {
     let mut bars = Vec::new(alloc);
-    for minute in 0..minutes {
+    let words = u32::try_from(marks.len()).unwrap_or(u32::MAX);
+    for minute in 0..words.saturating_mul(64) {
         let word = marks.get((minute / 64) as usize).copied().unwrap_or(0);
         if (word >> (minute % 64)) & 1 == 1 {
             let bar = Bar {
@@ -102,8 +97,6 @@ fn meeting_of<'a>(
     alloc: Global,
     holders: &[Holder<'a>],
     place: usize,
-    groups: &[Group],
-    minutes: u32,
 ) -> Result<Meeting<'a>, AllocError>
     requires { place < length holders.now }
 {
@@ -112,7 +105,7 @@ fn meeting_of<'a>(
     let mut names = Vec::new(alloc);
     for (at, other) in holders.iter().enumerate() {
         if at != place
-            && clash(groups, &own.row, &other.row)
+            && clash(&own.row, &other.row)
             && mark_common(
                 marks.as_mut_slice(),
                 own.held.as_slice(),
@@ -122,16 +115,16 @@ fn meeting_of<'a>(
             names.push(other.row.name)?;
         }
     }
-    let bars = bars_of_marks(alloc, marks.as_slice(), minutes)?;
+    let bars = bars_of_marks(alloc, marks.as_slice())?;
     Ok(Meeting { bars, names })
 }
 
-/// The rows with the minutes that their windows hold.
-fn holders_of<'a>(
+/// What the windows of each row meet, in the order of rows. The only error is want of memory.
+pub(crate) fn meetings_of<'a>(
     alloc: Global,
     rows: &[Row<'a>],
     span: DaySpan,
-) -> Result<Vec<Holder<'a>>, AllocError> {
+) -> Result<Vec<Meeting<'a>>, AllocError> {
     let mut holders = Vec::new(alloc);
     for row in rows {
         holders.push(Holder {
@@ -139,43 +132,9 @@ fn holders_of<'a>(
             held: held_minutes(alloc, row, span)?,
         })?;
     }
-    Ok(holders)
-}
-
-/// Whether windows of some rows meet.
-pub(crate) fn some_meet(meetings: &[Meeting<'_>]) -> bool {
-    for meeting in meetings {
-        if !meeting.bars.is_empty() {
-            return true;
-        }
-    }
-    false
-}
-
-fn some_exclusive(groups: &[Group]) -> bool {
-    for group in groups {
-        if group.is_exclusive() {
-            return true;
-        }
-    }
-    false
-}
-
-/// What the windows of each row meet, in the order of rows; nothing where no group is exclusive.
-/// The only error is want of memory.
-pub(crate) fn meetings_of<'a>(
-    alloc: Global,
-    rows: &[Row<'a>],
-    groups: &[Group],
-    span: DaySpan,
-) -> Result<Vec<Meeting<'a>>, AllocError> {
     let mut meetings = Vec::new(alloc);
-    if !some_exclusive(groups) {
-        return Ok(meetings);
-    }
-    let holders = holders_of(alloc, rows, span)?;
     for place in 0..holders.len() {
-        meetings.push(meeting_of(alloc, holders.as_slice(), place, groups, span.minutes())?)?;
+        meetings.push(meeting_of(alloc, holders.as_slice(), place)?)?;
     }
     Ok(meetings)
 }

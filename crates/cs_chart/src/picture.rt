@@ -1,45 +1,35 @@
 //! The whole picture.
-ghost use Rattle.std.specs.Prelude.{◌≤◌, length, map, string_bytes, IfOk, OnOk};
-ghost use Rattle.cs_chart.specs.Bars.{days_shown};
-ghost use Rattle.cs_chart.specs.Chart.{IsPictureOf, jobs_of_plan, jobs_of_tables};
-ghost use Rattle.cs_chart.specs.Picture.{KeepsBars};
-ghost use Rattle.cs_chart.specs.Rows.{shown_of};
+ghost use Rattle.std.specs.Prelude.{map, string_bytes, IfOk};
+ghost use Rattle.cs_chart.specs.Chart.{IsPictureOf, shown_of};
 
-use crate::axis::{push_axis, push_grid, push_hours, push_hours_between};
-use crate::heading::{plan_text, push_groups, push_key, push_title, terms_text, title};
-use crate::job::{Beside, push_row};
-use crate::load::Load;
-use crate::meeting::{Meeting, meetings_of, some_meet};
-use crate::row::{Row, Terms, plan_rows, table_rows};
-use crate::sheet::{HOURS, ROW, ROWS_OF_HOURS, Sheet};
+use crate::axis::{hours_above, push_axis, push_grid, push_hours};
+use crate::heading::{push_groups, push_key};
+use crate::job::{Beside, row_text};
+use crate::load::{Found, push_load};
+use crate::meeting::Meeting;
+use crate::row::Row;
+use crate::sheet::{HOURS, MARGIN, ROW, ROWS_OF_HOURS, Sheet};
 use crate::span::{DaySpan, MOST_DAYS};
-use crate::svg::Svg;
-use cs_anacrontab::Anacrontab;
-use cs_civil::Day;
-use cs_crontab::Crontab;
-use cs_place::Place;
-use cs_plan::{Group, Plan};
+use cs_plan::Plan;
 use std::alloc::{AllocError, Global};
+use std::fmt::Write;
 
 /// From how many rows on the hours come once more below them.
 const MANY_ROWS: usize = 25;
 
-/// How far down the first row may be: all groups that there can be have room above it.
-const LOWEST: u32 = 10_000;
-
 /// What is drawn.
 #[derive(Clone, Copy)]
-struct Scene<'a> {
-    title: &'a str,
-    terms: &'a str,
-    rows: &'a [Row<'a>],
-    groups: &'a [Group],
-    /// What the windows of each row meet, where that is looked for.
-    meetings: &'a [Meeting<'a>],
-    capacity: Option<u8>,
-    span: DaySpan,
+pub(crate) struct Scene<'a> {
+    pub(crate) title: &'a str,
+    pub(crate) terms: &'a str,
+    pub(crate) rows: &'a [Row<'a>],
+    /// What the windows of each row meet.
+    pub(crate) meetings: &'a [Meeting<'a>],
+    /// The plan that declarations make, if there are any.
+    pub(crate) plan: Option<&'a Plan>,
+    pub(crate) span: DaySpan,
     /// How many days were asked for.
-    days: u8,
+    pub(crate) days: u8,
 }
 
 /// How high so many rows are, with the hours between them.
@@ -50,73 +40,32 @@ fn rows_height(rows: usize) -> u32 {
         .saturating_add(HOURS.saturating_mul(hours))
 }
 
-/// Adds the hours that stand above a row, by its number from 0, if 40 rows stand above it or twice as
-/// many and so on.
-fn push_above(
-    alloc: Global,
-    svg: &mut Svg,
-    span: DaySpan,
-    place: u32,
-    top: u32,
-) -> Result<(), AllocError>
-    ensures { OnOk result (KeepsBars svg.old svg.new) }
-{
-    if 0 < place && place % ROWS_OF_HOURS == 0 {
-        let mut hours = String::new(alloc);
-        push_hours_between(&mut hours, span, top.saturating_sub(HOURS))?;
-        svg.push_str(hours.as_str())?;
-    }
-    Ok(())
-}
-
-/// The rows, of which the first has this top; what the jobs weigh comes to the load. Tells whether
-/// something is drawn coarser than it is.
+/// The rows, of which the first has this top. What is found as they are drawn is added to what was.
 fn rows_drawn(
     alloc: Global,
     scene: &Scene<'_>,
     top: u32,
-    load: &mut Load,
-) -> Result<(Svg, bool), AllocError>
-    requires low { top ≤ 10_000 }
-    requires few { length scene.now.rows.now ≤ 320 }
-    ensures { IfOk result (λ drawn. IsPictureOf scene.now.span (map shown_of scene.now.rows.now)
-        drawn.0) }
+    found: &mut Found,
+) -> Result<String, AllocError>
+    ensures { IfOk result (λ text. IsPictureOf scene.now.span (map shown_of scene.now.rows.now)
+        (string_bytes text)) }
 {
-    let mut svg = Svg::new(alloc);
-    let mut is_coarse = false;
+    let mut text = String::new(alloc);
     let mut place = 0;
     for row in scene.rows {
-        let y = top + ROW * place + HOURS * (place / ROWS_OF_HOURS);
-        push_above(alloc, &mut svg, scene.span, place, y)?;
+        let height = rows_height(place + 1).saturating_sub(ROW);
         let beside = Beside {
             span: scene.span,
-            groups: scene.groups,
-            meeting: scene.meetings.get(place as usize),
+            top: top.saturating_add(height),
+            meeting: scene.meetings.get(place),
         };
-        let coarse = push_row(alloc, &mut svg, row, y, &beside, load)?;
-        is_coarse = is_coarse || coarse;
+        let hours = hours_above(alloc, scene.span, place, beside.top)?;
+        text.push_str(hours.as_str())?;
+        let drawn = row_text(alloc, row, &beside, found)?;
+        text.push_str(drawn.as_str())?;
         place += 1;
     }
-    Ok((svg, is_coarse))
-}
-
-/// Adds a line of the foot, and goes below it.
-fn push_note(sheet: &mut Sheet, note: &str) -> Result<(), AllocError> {
-    sheet.push_line(12, note)?;
-    sheet.down(15);
-    Ok(())
-}
-
-/// Whether some job may have to wait for its lock.
-fn some_wait(rows: &[Row<'_>]) -> bool {
-    for row in rows {
-        if let Some(job) = row.declared {
-            if job.mode.waits() {
-                return true;
-            }
-        }
-    }
-    false
+    Ok(text)
 }
 
 /// Adds what the picture leaves out, at its foot.
@@ -124,41 +73,45 @@ fn push_notes(
     alloc: Global,
     sheet: &mut Sheet,
     scene: &Scene<'_>,
-    is_coarse: bool,
+    found: &Found,
 ) -> Result<(), AllocError> {
-    if is_coarse {
-        let due = 4 * u32::from(scene.span.days());
-        let gap = 2 * u32::from(scene.span.days());
-        let note = format!(in alloc;
-            "left out: due minutes less than {due} min behind the one before, and gaps of less than \
-             {gap} min between bars"
-        )?;
-        push_note(sheet, note.as_str())?;
-    }
-    if some_meet(scene.meetings) {
-        push_note(
-            sheet,
-            "red: a window of another job of its exclusive group holds the minute, and not both \
-             take the group's lock",
-        )?;
-    }
-    if some_wait(scene.rows) {
-        push_note(
-            sheet,
-            "a run that waits for its lock may go on later than its bar shows",
-        )?;
-    }
-    if scene.span.days() < scene.days.min(MOST_DAYS) {
-        push_note(sheet, "days past 9999-12-31 are left out")?;
+    let days = u32::from(scene.span.days());
+    let (due, gap) = (4 * days, 2 * days);
+    let coarse = format!(in alloc;
+        "left out: due minutes less than {due} min behind the one before, and gaps of less than \
+         {gap} min between bars"
+    )?;
+    let red = "red: a window of another job of its exclusive group holds the minute, and not both \
+               take the group's lock";
+    let waits = "a run that waits for its lock may go on later than its bar shows";
+    let is_cut = scene.span.days() < scene.days.min(MOST_DAYS);
+    for (is_told, note) in [
+        (found.is_coarse, coarse.as_str()),
+        (found.meets, red),
+        (found.waits, waits),
+        (is_cut, "days past 9999-12-31 are left out"),
+    ] {
+        if is_told {
+            sheet.push_line(12, note)?;
+            sheet.down(15);
+        }
     }
     Ok(())
 }
 
 /// Adds everything above the rows.
 fn push_head(sheet: &mut Sheet, scene: &Scene<'_>) -> Result<(), AllocError> {
-    push_title(sheet, scene.title, scene.terms)?;
+    let (y, title) = (sheet.below(26), scene.title);
+    write!(
+        sheet.text,
+        "<text x=\"{MARGIN}\" y=\"{y}\" font-size=\"16\" font-weight=\"bold\">{title}</text>\n"
+    )?;
+    sheet.push_line(44, scene.terms)?;
+    sheet.down(50);
     push_key(sheet)?;
-    push_groups(sheet, scene.groups)?;
+    if let Some(plan) = scene.plan {
+        push_groups(sheet, plan.groups())?;
+    }
     sheet.down(4);
     push_axis(sheet, scene.span)?;
     push_grid(sheet, scene.span, rows_height(scene.rows.len()))?;
@@ -171,32 +124,30 @@ fn push_foot(
     alloc: Global,
     sheet: &mut Sheet,
     scene: &Scene<'_>,
-    load: &Load,
-    is_coarse: bool,
+    found: &Found,
 ) -> Result<(), AllocError> {
     sheet.text.push_str("</g>\n")?;
     if MANY_ROWS <= scene.rows.len() {
         push_hours(&mut sheet.text, scene.span, sheet.y)?;
         sheet.down(HOURS);
     }
-    if let Some(capacity) = scene.capacity {
+    if let Some(plan) = scene.plan {
         sheet.down(12);
-        load.push(sheet, scene.span, capacity)?;
+        push_load(sheet, scene.span, found.loads.as_slice(), plan.capacity())?;
         push_hours(&mut sheet.text, scene.span, sheet.y)?;
         sheet.down(HOURS);
     }
     sheet.down(6);
-    push_notes(alloc, sheet, scene, is_coarse)?;
+    push_notes(alloc, sheet, scene, found)?;
     sheet.text.push_str("</svg>\n")
 }
 
 /// The head of the file of a picture so high: wider where names of groups stand behind the days.
 fn file_text(alloc: Global, scene: &Scene<'_>, height: u32) -> Result<String, AllocError> {
     let title = scene.title;
-    let width = if scene.groups.is_empty() {
-        1_120
-    } else {
-        1_220
+    let width = match scene.plan {
+        Some(plan) if !plan.groups().is_empty() => 1_220,
+        _ => 1_120,
     };
     format!(in alloc;
         "<?xml version=\"1.0\" encoding=\"UTF-8\"?>\n\
@@ -207,108 +158,40 @@ fn file_text(alloc: Global, scene: &Scene<'_>, height: u32) -> Result<String, Al
     )
 }
 
-/// Draws a scene.
-fn draw(alloc: Global, scene: &Scene<'_>) -> Result<String, AllocError>
-    requires { length scene.now.rows.now ≤ 320 }
-    ensures { IfOk result (λ svg. IsPictureOf scene.now.span (map shown_of scene.now.rows.now)
-        (string_bytes svg)) }
-{
-    let mut head = Sheet::new(alloc, 0);
-    push_head(&mut head, scene)?;
-    let top = head.y.min(LOWEST);
-    let mut load = Load::new(alloc, scene.span.minutes())?;
-    let (rows, is_coarse) = rows_drawn(alloc, scene, top, &mut load)?;
-    let mut foot = Sheet::new(alloc, top.saturating_add(rows_height(scene.rows.len())));
-    push_foot(alloc, &mut foot, scene, &load, is_coarse)?;
-    let file = file_text(alloc, scene, foot.below(10))?;
-    let mut svg = Svg::new(alloc);
-    svg.push_str(file.as_str())?;
-    svg.push_str(head.text.as_str())?;
-    svg.push_drawn(&rows)?;
-    svg.push_str(foot.text.as_str())?;
-    Ok(svg.into_string())
-}
-
-/// Of which tables a picture is.
-#[derive(Clone, Copy)]
-pub struct Subject<'a> {
-    /// What the title calls them, such as the crontab's path.
-    pub name: &'a [u8],
-    /// Where the lines of the crontab come from, if it is a gathered table.
-    pub places: &'a [Place],
-}
-
-/// The picture of two tables of which nothing is declared, over so many days from one on, as an SVG
-/// document (SVG 1.1): a row for each command line and each anacron job, with bars over the minutes in
-/// which its runs may go on and marks at its due minutes.
+/// Draws a scene as an SVG document (SVG 1.1): a row for each command line and each anacron job, with bars
+/// over the minutes in which its runs may go on and marks at its due minutes.
 ///
 /// A row is named by the number of its line and the beginning of its command, or by the identifier of
 /// its anacron job, and tells who points at it where a line of a gathered table comes from; what is no
-/// UTF-8 and what may not stand in XML shows as U+FFFD. `days` is from 1 to 7: another number counts
-/// as the nearest of those. Days before 1970-01-04 and past 9999-12-31 are left out. Where due minutes or
-/// bars are nearer than the picture can show, they are drawn as one, and a line at the foot says so.
-/// The only error is want of memory.
-pub fn chart(
-    alloc: Global,
-    subject: &Subject<'_>,
-    table: &Crontab,
-    jobs: &Anacrontab,
-    terms: Terms,
-    from: Day,
-    days: u8,
-) -> Result<String, AllocError>
-    ensures { IfOk result (λ svg. IsPictureOf (days_shown from days)
-        (jobs_of_tables terms table.now jobs.now) (string_bytes svg)) }
-{
-    let span = DaySpan::new(from, days);
-    let rows = table_rows(alloc, table, jobs, subject.places, terms)?;
-    let title = title(alloc, subject.name, span)?;
-    let words = terms_text(alloc, terms)?;
-    let scene = Scene {
-        title: title.as_str(),
-        terms: words.as_str(),
-        rows: rows.as_slice(),
-        groups: &[],
-        meetings: &[],
-        capacity: None,
-        span,
-        days,
-    };
-    let svg = draw(alloc, &scene)?;
-    Ok(svg)
-}
-
-/// The picture of a plan, as [`chart`] draws that of two tables, with what is declared of its jobs: each
-/// has its own longest time, its group has a colour, and below the rows is the load of each minute, the
-/// weights of the jobs of which a window holds it, beside the capacity.
-///
-/// A run that waits for its lock may go on past its window; the picture says so where there is one. The
-/// only error is want of memory.
-pub fn plan_chart(
-    alloc: Global,
-    subject: &Subject<'_>,
-    plan: &Plan,
-    from: Day,
-    days: u8,
-) -> Result<String, AllocError>
-    ensures { IfOk result (λ svg. IsPictureOf (days_shown from days) (jobs_of_plan plan.now)
+/// UTF-8 and what may not stand in XML shows as U+FFFD. Where due minutes or bars are nearer than the
+/// picture can show, they are drawn as one, and a line at the foot says so. With declarations each job has
+/// its own longest time, its group has a colour, and below the rows is the load of each minute, the
+/// weights of the jobs of which a window holds it, beside the capacity. A run that waits for its lock may
+/// go on past its window; the picture says so where there is one. The only error is want of memory.
+pub(crate) fn draw(alloc: Global, scene: &Scene<'_>) -> Result<String, AllocError>
+    ensures { IfOk result (λ svg. IsPictureOf scene.now.span (map shown_of scene.now.rows.now)
         (string_bytes svg)) }
 {
-    let span = DaySpan::new(from, days);
-    let rows = plan_rows(alloc, plan, subject.places)?;
-    let title = title(alloc, subject.name, span)?;
-    let terms = plan_text(alloc, plan)?;
-    let meetings = meetings_of(alloc, rows.as_slice(), plan.groups(), span)?;
-    let scene = Scene {
-        title: title.as_str(),
-        terms: terms.as_str(),
-        rows: rows.as_slice(),
-        groups: plan.groups(),
-        meetings: meetings.as_slice(),
-        capacity: Some(plan.capacity()),
-        span,
-        days,
+    let mut head = Sheet {
+        text: String::new(alloc),
+        y: 0,
     };
-    let svg = draw(alloc, &scene)?;
+    push_head(&mut head, scene)?;
+    let mut found = Found {
+        loads: vec![in alloc; 0; scene.span.minutes() as usize]?,
+        is_coarse: false,
+        meets: false,
+        waits: false,
+    };
+    let rows = rows_drawn(alloc, scene, head.y, &mut found)?;
+    let mut foot = Sheet {
+        text: String::new(alloc),
+        y: head.y.saturating_add(rows_height(scene.rows.len())),
+    };
+    push_foot(alloc, &mut foot, scene, &found)?;
+    let mut svg = file_text(alloc, scene, foot.below(10))?;
+    svg.push_str(head.text.as_str())?;
+    svg.push_str(rows.as_str())?;
+    svg.push_str(foot.text.as_str())?;
     Ok(svg)
 }

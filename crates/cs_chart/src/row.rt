@@ -1,26 +1,25 @@
 //! The rows of a picture: what is drawn of each job.
-ghost use Rattle.std.specs.Prelude.{◌≡◌, ◌≤◌, IfOk, length, map};
-ghost use Rattle.cs_chart.specs.Chart.{jobs_of_plan, jobs_of_tables, windows_of};
+ghost use Rattle.std.specs.Prelude.{◌≡◌, IfOk, map};
+ghost use Rattle.cs_chart.specs.Chart.{jobs_of_plan, jobs_of_tables, shown_of, windows_of};
 ghost use Rattle.cs_chart.specs.Chart.{terms_at, windows_of_anacron};
-ghost use Rattle.cs_chart.specs.Rows.{shown_of};
 
 use cs_anacrontab::{Anacrontab, Job};
 use cs_crontab::{Crontab, Line, When};
 use cs_history::Mode;
 use cs_place::{Place, place_of};
-use cs_plan::{Job as PlanJob, Plan};
+use cs_plan::{Group, Job as PlanJob, Plan};
 use cs_windows::Occupied;
 use std::alloc::{AllocError, Global};
 
 /// What holds of all jobs of two tables of which nothing is declared.
-#[derive(Clone, Copy, PartialEq, Eq)]
-pub struct Terms {
+#[derive(Clone, Copy)]
+pub(crate) struct Terms {
     /// The longest time that a run takes, in minutes from 1 to 4,320.
-    pub max: u16,
+    pub(crate) max: u16,
     /// The catch-up hours: the minutes of a day from this one on at which an anacron job may be started,
-    pub from: u16,
+    pub(crate) from: u16,
     /// and below this one, up to 1,440.
-    pub to: u16,
+    pub(crate) to: u16,
 }
 
 /// What names a job.
@@ -34,10 +33,13 @@ pub(crate) enum Name<'a> {
 
 /// What is declared of a job, beside its longest time.
 #[derive(Clone, Copy)]
-pub(crate) struct Declared {
+pub(crate) struct Declared<'a> {
     pub(crate) weight: u8,
-    /// The place of its group among the plan's, if it is in one.
-    pub(crate) group: Option<u8>,
+    /// The place of its group among the plan's, if it is in one,
+    pub(crate) place: Option<u8>,
+    /// and the group.
+    pub(crate) group: Option<&'a Group>,
+    pub(crate) is_exclusive: bool,
     pub(crate) mode: Mode,
 }
 
@@ -50,7 +52,7 @@ pub(crate) struct Row<'a> {
     /// The longest time of a run, in minutes.
     pub(crate) max: u16,
     /// What is declared of it, if anything is.
-    pub(crate) declared: Option<Declared>,
+    pub(crate) declared: Option<Declared<'a>>,
     /// Where its line comes from, if it is one of a gathered table.
     pub(crate) origin: Option<&'a Place>,
 }
@@ -58,17 +60,26 @@ pub(crate) struct Row<'a> {
 impl Row<'_> {
     /// The place of its group, if it is in one.
     pub(crate) fn group(&self) -> Option<u8> {
-        self.declared?.group
+        self.declared?.place
     }
 }
 
 /// What a plan says of a job.
-fn declared_of(job: PlanJob) -> Declared {
-    Declared {
+fn declared_of(plan: &Plan, job: PlanJob) -> Declared<'_> {
+    let mut declared = Declared {
         weight: job.weight(),
-        group: job.group(),
+        place: job.group(),
+        group: None,
+        is_exclusive: false,
         mode: job.mode(),
+    };
+    if let Some(place) = declared.place {
+        if let Some(group) = plan.groups().get(usize::from(place)) {
+            declared.group = Some(group);
+            declared.is_exclusive = group.is_exclusive();
+        }
     }
+    declared
 }
 
 /// The row of a command line.
@@ -76,7 +87,7 @@ fn line_row<'a>(
     line: &'a Line,
     places: &'a [Place],
     max: u16,
-    declared: Option<Declared>,
+    declared: Option<Declared<'a>>,
 ) -> Row<'a>
     ensures { shown_of result ≡ windows_of line.now.when max }
 {
@@ -98,7 +109,7 @@ fn line_row<'a>(
 
 /// The row of an anacron job: from the first minute at which it may be started on, up to where a run
 /// ends that starts in the last.
-fn job_row(job: &Job, terms: Terms, declared: Option<Declared>) -> Row<'_>
+fn job_row<'a>(job: &'a Job, terms: Terms, declared: Option<Declared<'a>>) -> Row<'a>
     ensures { shown_of result ≡ windows_of_anacron terms }
 {
     let hours = terms.to.saturating_sub(1).saturating_sub(terms.from);
@@ -122,9 +133,8 @@ pub(crate) fn table_rows<'a>(
     places: &'a [Place],
     terms: Terms,
 ) -> Result<Vec<Row<'a>>, AllocError>
-    ensures shown { IfOk result (λ rows. map shown_of rows.items
+    ensures { IfOk result (λ rows. map shown_of rows.items
         ≡ jobs_of_tables terms table.now jobs.now) }
-    ensures few { IfOk result (λ rows. length rows.items ≤ 320) }
 {
     let mut rows = Vec::new(alloc);
     for line in table.lines() {
@@ -137,7 +147,7 @@ pub(crate) fn table_rows<'a>(
 }
 
 /// The row of an anacron job of a plan, by the job's number.
-fn plan_row<'a>(plan: &Plan, job: &'a Job, number: u16) -> Row<'a>
+fn plan_row<'a>(plan: &'a Plan, job: &'a Job, number: u16) -> Row<'a>
     ensures { shown_of result ≡ windows_of_anacron (terms_at plan.now number) }
 {
     let hours = plan.hours();
@@ -147,7 +157,7 @@ fn plan_row<'a>(plan: &Plan, job: &'a Job, number: u16) -> Row<'a>
         from: hours.from(),
         to: hours.to(),
     };
-    job_row(job, terms, Some(declared_of(declared)))
+    job_row(job, terms, Some(declared_of(plan, declared)))
 }
 
 /// The rows of the jobs of a plan.
@@ -156,14 +166,13 @@ pub(crate) fn plan_rows<'a>(
     plan: &'a Plan,
     places: &'a [Place],
 ) -> Result<Vec<Row<'a>>, AllocError>
-    ensures shown { IfOk result (λ rows. map shown_of rows.items ≡ jobs_of_plan plan.now) }
-    ensures few { IfOk result (λ rows. length rows.items ≤ 320) }
+    ensures { IfOk result (λ rows. map shown_of rows.items ≡ jobs_of_plan plan.now) }
 {
     let lines = plan.crontab().lines();
     let mut rows = Vec::new(alloc);
     for place in 0..lines.len() {
         let job = plan.job_at(place as u16);
-        let declared = Some(declared_of(job));
+        let declared = Some(declared_of(plan, job));
         rows.push(line_row(&lines[place], places, job.max(), declared))?;
     }
     let crons = plan.crons();

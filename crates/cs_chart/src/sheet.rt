@@ -1,6 +1,6 @@
 //! The sheet that a part of a picture is drawn on, from its top to its foot.
 use crate::span::DaySpan;
-use std::alloc::{AllocError, Global};
+use std::alloc::AllocError;
 use std::fmt::Write;
 
 /// Where the names of rows begin, in pixels from the left, as all lengths here.
@@ -36,14 +36,6 @@ pub(crate) struct Sheet {
 }
 
 impl Sheet {
-    /// Nothing yet, from there on.
-    pub(crate) fn new(alloc: Global, y: u32) -> Sheet {
-        Sheet {
-            text: String::new(alloc),
-            y,
-        }
-    }
-
     /// Goes down so far.
     pub(crate) fn down(&mut self, by: u32) {
         self.y = self.y.saturating_add(by);
@@ -54,28 +46,28 @@ impl Sheet {
         self.y.saturating_add(by)
     }
 
-    /// Begins a part as wide as the days, in which a place from the left is a minute of the picture,
-    /// and a place from the top one of so many steps.
-    pub(crate) fn begin_plot(
-        &mut self,
-        span: DaySpan,
-        height: u32,
-        steps: u32,
-    ) -> Result<(), AllocError> {
-        let y = self.y;
-        let minutes = span.minutes();
-        write!(
-            self.text,
-            "<svg x=\"{PLOT_LEFT}\" y=\"{y}\" width=\"{PLOT_WIDTH}\" height=\"{height}\" \
-             viewBox=\"0 0 {minutes} {steps}\" preserveAspectRatio=\"none\">"
-        )
-    }
-
     /// Adds a line of text at the margin, so far below.
     pub(crate) fn push_line(&mut self, below: u32, text: &str) -> Result<(), AllocError> {
         let y = self.below(below);
         write!(self.text, "<text x=\"{MARGIN}\" y=\"{y}\">{text}</text>\n")
     }
+}
+
+/// Begins a part from this top on, as wide as the days, in which a place from the left is a minute of the
+/// picture, and a place from the top one of so many steps.
+pub(crate) fn begin_plot(
+    text: &mut String,
+    span: DaySpan,
+    top: u32,
+    height: u32,
+    steps: u32,
+) -> Result<(), AllocError> {
+    let minutes = span.minutes();
+    write!(
+        text,
+        "<svg x=\"{PLOT_LEFT}\" y=\"{top}\" width=\"{PLOT_WIDTH}\" height=\"{height}\" \
+         viewBox=\"0 0 {minutes} {steps}\" preserveAspectRatio=\"none\">"
+    )
 }
 
 /// The place of a minute of the picture from the left.

@@ -14,7 +14,7 @@ const LAST_DAY: u64 = 2_932_896;
 pub(crate) const MOST_DAYS: u8 = 7;
 
 /// Successive days, one to seven, from 1970-01-04 on and none past 9999-12-31.
-#[derive(Clone, Copy, PartialEq, Eq)]
+#[derive(Clone, Copy)]
 pub(crate) struct DaySpan {
     start: Day,
     count: u8,
@@ -71,10 +71,5 @@ impl DaySpan {
         ensures late { 3 ≤ result }
     {
         Day::new(self.start.number() + u64::from(place)).unwrap()
-    }
-
-    /// The last day.
-    pub(crate) fn last(self) -> Day {
-        self.day(self.count - 1)
     }
 }

@@ -66,13 +66,6 @@ pub(crate) fn push_cut(text: &mut String, bytes: &[u8], cells: usize) -> Result<
     Ok(())
 }
 
-/// Adds a number below 100 in two digits.
-pub(crate) fn push_pair(text: &mut String, number: u16) -> Result<(), AllocError> {
-    let tens = number / 10;
-    let ones = number % 10;
-    write!(text, "{tens}{ones}")
-}
-
 /// Adds `YYYY-MM-DD Fri`.
 pub(crate) fn push_day(text: &mut String, day: Day) -> Result<(), AllocError> {
     push_cut(text, day_text(day).as_slice(), 10)?;

@@ -1,13 +1,12 @@
 -- What follows for a stretch in use.
-use Rattle.std.proofs.Common.{◌≡◌, ℕ, ◌<◌, ◌≤◌, List, [], ◌∷◌, ◌++◌, ◌+◌, suc, map, take, length, slice_set, Bor, None, ap, sym, ◌∙◌, arith, get_or}
-use Rattle.std.proofs.lemmas.List.{length-map, map-append, take_more_set}
-use Rattle.std.proofs.Math.Seq.{take-suc}
+use Rattle.std.proofs.Common.{◌≡◌, ℕ, ◌<◌, ◌≤◌, List, length, None, ap, sym, ◌∙◌, arith, get_or}
+use Rattle.std.proofs.lemmas.List.{length-map}
 use Rattle.cs_civil.specs.Calendar.{Kind}
 use Rattle.cs_plan.specs.Plan.{Declared, as_plan}
 use Rattle.cs_classes.specs.declared.used.UsedStretch.{UsedStretch}
 use Rattle.cs_classes.specs.Planned.{due_on, planned}
 use Rattle.cs_windows.specs.Windows.{windows_on}
-use Rattle.cs_classes.specs.Claim.{Claimed, as_certificate, class_at, class_of}
+use Rattle.cs_classes.specs.Claim.{Claimed, as_certificate, class_of}
 use Rattle.cs_theorem.specs.Accepted.{windows_of}
 use Rattle.cs_theorem.specs.Faults.{due_fault}
 use Rattle.cs_theorem.proofs.ByKind.{by_kinds}
@@ -16,8 +15,6 @@ use Rattle.cs_classes.specs.StandsFor.{days_by}
 use Rattle.cs_classes.specs.Used.{HaveClasses, IsInUse}
 use Rattle.cs_check.specs.Case.{IsFit}
 use Rattle.cs_classes.specs.Said.{said}
-use Rattle.cs_claims.specs.declared.class.Class.{Class}
-use Rattle.cs_theorem.specs.Accepted.{nth}
 use Rattle.cs_check.specs.declared.case.Case.{Case}
 use Rattle.cs_check.specs.Stretches.{IsCase}
 use Rattle.cs_check.proofs.Headline.{length_of}
@@ -36,21 +33,3 @@ number_there c n u is place lt = let long = long_as_kinds c n u.kinds.items u.of
 
 pub days_range : (k : Case) → IsCase k → (2 ≤ k.days) × (k.days ≤ 4)
 days_range k is = let r = (length_of k.plan.now (said k.claim.now).reach is.fit).range in (omega (arith, is.long, r.0), omega (arith, is.long, r.1))
-
--- one more of what the classes have
-one_more_of : {A B : Type 0} (now : A → B) (value : ℕ → B) (of : List ℕ) (so_far : List A) (place : ℕ) (x : A) → place < length so_far → place < length of → now x ≡ value (nth of place)
-    → map now (take place so_far) ≡ map value (take place of)
-    → map now (take (place + 1) (slice_set so_far place x)) ≡ map value (take (place + 1) of)
-one_more_of {A} {B} now value of so_far place x lt in_of is so =
-    ap (map now) (take_more_set so_far place x lt)
-    ∙ map-append now (take place so_far) (x ∷ [])
-    ∙ ap (λ (xs : List B). xs ++ now x ∷ []) so
-    ∙ ap (λ (y : B). map value (take place of) ++ y ∷ []) is
-    ∙ sym (map-append value (take place of) (nth of place ∷ []))
-    ∙ ap (map value) (sym (let e : place + 1 ≡ suc place = omega arith in ap (λ (k : ℕ). take k of) e ∙ take-suc of place 0 in_of))
-
--- one more of the classes
-pub one_more : (classes : List Class) (of : List ℕ) (so_far : List (Bor Class)) (place : ℕ) (class : Bor Class) → place < length so_far → place < length of → class.now ≡ class_at classes (nth of place)
-    → map (λ (x : Bor Class). x.now) (take place so_far) ≡ map (class_at classes) (take place of)
-    → map (λ (x : Bor Class). x.now) (take (place + 1) (slice_set so_far place class)) ≡ map (class_at classes) (take (place + 1) of)
-one_more classes of so_far place class lt in_of is so = one_more_of (λ (x : Bor Class). x.now) (class_at classes) of so_far place class lt in_of is so

@@ -1,14 +1,13 @@
-ghost use Rattle.std.specs.Prelude.{◌≡◌, nat_eq, nat_lt};
+ghost use Rattle.std.specs.Prelude.{◌≡◌, nat_lt};
 ghost use Rattle.std.specs.List.{list_all};
 ghost use Rattle.cs_daytree.specs.Rising.{each_next, rises};
-ghost use Rattle.cs_daytree.specs.Tree.{has};
 ghost use Rattle.cs_wait.specs.Bounds.{at};
 ghost use Rattle.cs_claims.specs.Certificate.{bound_in, is_due_in, pieces_of};
-ghost use Rattle.cs_claims.specs.Rules.{class_fits, due_list_fits, group_backlog_fits, has_carries, has_carry, is_at_midnight, is_carries};
+ghost use Rattle.cs_claims.specs.Rules.{class_fits, due_list_fits, group_backlog_fits, has_carries, is_at_midnight, is_carries};
 
 use crate::limits::{MAX_GROUPS, MAX_JOBS};
 use cs_civil::{MINUTES_OF_DAY, Sequence};
-use cs_wait::{Backlog, Piece};
+use cs_wait::Backlog;
 
 /// The minutes of a day at which a cron job is due.
 #[derive(Drop)]
@@ -84,25 +83,12 @@ fn groups_rise(backlog: &[GroupBacklog]) -> bool
     backlog.is_sorted_by(|one, next| one.group < next.group)
 }
 
-fn is_start(piece: &Piece) -> bool
-    ensures { result ≡ nat_eq piece.now.minute 0 }
-{
-    piece.minute == 0
-}
-
 impl GroupBacklog {
     /// Whether it has no piece after minute 0.
     fn is_at_midnight(&self) -> bool
         ensures { result ≡ is_at_midnight self.now }
     {
-        self.backlog.pieces().iter().all(|piece| is_start(piece))
-    }
-
-    /// Whether something is left over at midnight.
-    fn has_carry(&self) -> bool
-        ensures { result ≡ has_carry self.now }
-    {
-        !self.backlog.pieces().is_empty()
+        self.backlog.pieces().iter().all(|piece| piece.minute == 0)
     }
 
     /// Whether the group's number is in range. Its pieces always make a backlog.
@@ -127,18 +113,6 @@ fn are_at_midnight(backlog: &[GroupBacklog]) -> bool
     backlog.iter().all(|of_group| of_group.is_at_midnight())
 }
 
-fn have_carries(backlog: &[GroupBacklog]) -> bool
-    ensures { result ≡ list_all has_carry backlog.now }
-{
-    backlog.iter().all(|of_group| of_group.has_carry())
-}
-
-fn has(minutes: &[u16], minute: u16) -> bool
-    ensures { result ≡ has minutes.now minute }
-{
-    minutes.iter().any(|listed| *listed == minute)
-}
-
 fn bound_among(backlog: &[GroupBacklog], group: u8, minute: u16) -> u32
     ensures { result ≡ at (pieces_of backlog.now group) minute }
 {
@@ -156,7 +130,7 @@ impl Class {
         ensures { result ≡ is_due_in self.now job minute }
     {
         self.due.as_slice().iter().any(|list| list.job == job
-            && has(list.minutes.as_slice(), minute))
+            && list.minutes.as_slice().contains(&minute))
     }
 
     /// Returns the listed bound of a group at a minute of a day of this class: 0 if it has none. In
@@ -178,7 +152,10 @@ impl Class {
     pub(crate) fn has_carries(&self) -> bool
         ensures { result ≡ has_carries self.now }
     {
-        have_carries(self.backlog.as_slice())
+        let backlog = self.backlog.as_slice();
+        backlog
+            .iter()
+            .all(|of_group| !of_group.backlog.pieces().is_empty())
     }
 
     /// Whether jobs and groups rise and are in range, and each due list fits.

@@ -2,7 +2,7 @@
 
 ghost use Rattle.std.specs.Prelude.{◌≡◌, nat_le};
 ghost use Rattle.cs_windows.specs.Tree.{tree_of};
-ghost use Rattle.cs_claims.specs.Rules.{depth, entries_fit, entry_fits, is_short, leaves_pass};
+ghost use Rattle.cs_claims.specs.Rules.{depth, entries_fit, is_short, leaves_pass};
 
 use crate::limits::{MAX_ENTRIES, MAX_JOBS};
 use cs_civil::MINUTES_OF_DAY;
@@ -24,16 +24,12 @@ pub(crate) fn is_no_deeper_than(tree: &MinuteTree, limit: u8) -> bool
     }
 }
 
-fn entry_fits(entry: &Entry, days: u8) -> bool
-    ensures { result ≡ entry_fits days entry.now }
-{
-    entry.job < MAX_JOBS && entry.day_back < days && entry.from < MINUTES_OF_DAY
-}
-
 fn entries_fit(entries: &[Entry], days: u8) -> bool
     ensures { result ≡ entries_fit days entries.now }
 {
-    entries.iter().all(|entry| entry_fits(entry, days))
+    entries.iter().all(|entry| {
+        entry.job < MAX_JOBS && entry.day_back < days && entry.from < MINUTES_OF_DAY
+    })
 }
 
 /// Whether each entry has a job and a minute in range, and starts less than `days` days before.

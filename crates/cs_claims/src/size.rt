@@ -124,29 +124,17 @@ fn minute_tree(tree: &MinuteTree) -> u64 {
     }
 }
 
-/// `[group,minutes]`.
-fn carry(of: &GroupBacklog) -> u64 {
-    match of.backlog.pieces().first() {
-        Some(piece) => total(&[3, of.group.text(), piece.value.text()]),
-        None => 0,
-    }
-}
-
-/// `{"carry":[..]}`.
-fn compact_class(class: &Class) -> u64 {
-    let carries = class.backlog.as_slice();
-    let mut text = total(&[10, brackets(carries.len())]);
-    for of in carries {
-        text = text.saturating_add(carry(of));
-    }
-    text
-}
-
-/// The list of these classes in version 3.
+/// The list of these classes in version 3: `{"carry":[..]}` each, with `[group,minutes]` for each group.
 fn compact_classes(classes: &[Class]) -> u64 {
     let mut text = brackets(classes.len());
     for class in classes {
-        text = text.saturating_add(compact_class(class));
+        let carries = class.backlog.as_slice();
+        text = total(&[text, 10, brackets(carries.len())]);
+        for of in carries {
+            if let Some(piece) = of.backlog.pieces().first() {
+                text = total(&[text, 3, of.group.text(), piece.value.text()]);
+            }
+        }
     }
     text
 }

@@ -22,32 +22,11 @@ pub struct Stretch {
 }
 
 impl Stretch {
-    /// Whether it has from two days to the most.
-    fn has_days(&self, most: u8) -> bool
-        ensures { result ≡ has_days most (stretch_of self.now) }
-    {
-        2 <= self.of.len() && self.of.len() <= usize::from(most)
-    }
-
-    /// Whether the tree is no deeper than [`MAX_DEPTH`].
-    fn is_shallow(&self) -> bool
-        ensures { result ≡ is_shallow (stretch_of self.now) }
-    {
-        is_no_deeper_than(&self.tree, MAX_DEPTH)
-    }
-
     /// Whether each split is inside its range.
     fn is_split_well(&self) -> bool
         ensures { result ≡ is_split_well (stretch_of self.now) }
     {
         self.tree.splits_inside()
-    }
-
-    /// Whether each class is below the count.
-    fn is_of_classes(&self, count: usize) -> bool
-        ensures { result ≡ is_of_classes count (stretch_of self.now) }
-    {
-        are_below(self.of.as_slice(), count)
     }
 
     /// Whether this one comes first: by length, then by their classes.
@@ -70,14 +49,16 @@ fn are_below(classes: &[u32], count: usize) -> bool
 pub(crate) fn have_days(stretches: &[Stretch], most: u8) -> bool
     ensures { result ≡ list_all (λ s. has_days most (stretch_of s)) stretches.now }
 {
-    stretches.iter().all(|stretch| stretch.has_days(most))
+    stretches.iter().all(|stretch| 2 <= stretch.of.len() && stretch.of.len() <= usize::from(most))
 }
 
 /// Whether no tree is deeper than [`MAX_DEPTH`].
 pub(crate) fn are_shallow(stretches: &[Stretch]) -> bool
     ensures { result ≡ list_all (λ s. is_shallow (stretch_of s)) stretches.now }
 {
-    stretches.iter().all(|stretch| stretch.is_shallow())
+    stretches
+        .iter()
+        .all(|stretch| is_no_deeper_than(&stretch.tree, MAX_DEPTH))
 }
 
 /// Whether each split of a tree is inside its range.
@@ -91,7 +72,9 @@ pub(crate) fn are_split_well(stretches: &[Stretch]) -> bool
 pub(crate) fn are_of_classes(stretches: &[Stretch], count: usize) -> bool
     ensures { result ≡ list_all (λ s. is_of_classes count (stretch_of s)) stretches.now }
 {
-    stretches.iter().all(|stretch| stretch.is_of_classes(count))
+    stretches
+        .iter()
+        .all(|stretch| are_below(stretch.of.as_slice(), count))
 }
 
 /// Whether the stretches rise strictly: by length, then by their classes.

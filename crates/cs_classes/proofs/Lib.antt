@@ -3,7 +3,6 @@ pub mod Distinct
 pub mod GroupDays
 pub mod Lists
 pub mod Midnight
-pub mod PlannedJobs
 pub mod DayLists
 pub mod WorkedClasses
 pub mod Grown

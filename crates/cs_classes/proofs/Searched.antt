@@ -1,12 +1,11 @@
 -- Lists that are looked through.
-use Rattle.std.proofs.Common.{ℕ, ◌+◌, ◌<◌, ◌≡◌, ◌==◌, ◌&&◌, ◌||◌, Bool, false, List, [], ◌∷◌, ◌++◌, filter, map, length, get_or, drop, take, refl, sym, ap, ◌∙◌}
+use Rattle.std.proofs.Common.{ℕ, ◌+◌, ◌<◌, ◌≡◌, ◌==◌, ◌&&◌, ◌||◌, Bool, List, [], ◌∷◌, ◌++◌, filter, map, length, get_or, take, refl, sym, ap, ◌∙◌}
 use Rattle.std.specs.Prelude.{nat_eq, option_map, slice_get, Some, if◌then◌else◌}
 use Rattle.std.specs.List.{list_any}
 use Rattle.std.proofs.lemmas.List.{take_more}
 use Rattle.std.proofs.lemmas.Option.{get_or_from_slice_get, slice_get-get_or, slice_get-map, slice_get_within}
 use Rattle.std.specs.Cmp.Lexicographic.{pointwise}
 use Rattle.cs_theorem.specs.Faults.{same_list}
-use Rattle.cs_classes.proofs.Grown.{opened}
 use Rattle.cs_classes.proofs.Lists.{filter_push}
 
 -- the comparison of slices
@@ -15,10 +14,6 @@ slices_same [] [] = refl
 slices_same [] (y ∷ ys) = refl
 slices_same (x ∷ xs) [] = refl
 slices_same (x ∷ xs) (y ∷ ys) = ap (λ (b : Bool). (x == y) && b) (slices_same xs ys)
-
--- an element that fails is passed over
-pub passed : {A : Type 0} (t : A → Bool) (xs : List A) (i : ℕ) (x : A) (r : Bool) → i < length xs → x ≡ get_or xs i x → t x ≡ false → list_any t (drop i xs) ≡ r → list_any t (drop (i + 1) xs) ≡ r
-passed {A} t xs i x r lt is e h = sym (ap (λ (b : Bool). b || list_any t (drop (i + 1) xs)) e) ∙ (sym (ap (list_any t) (opened xs i x lt is)) ∙ h)
 
 pub any_map : {A B : Type 0} (t : B → Bool) (f : A → B) (xs : List A) → list_any t (map f xs) ≡ list_any (λ x. t (f x)) xs
 any_map t f [] = refl

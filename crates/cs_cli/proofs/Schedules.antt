@@ -25,7 +25,7 @@ use Rattle.cs_judge.specs.declared.answers.Wanted.{Wanted}
 use Rattle.cs_judge.specs.declared.answers.Wanted.TheVariants.{Verdict}
 use Rattle.cs_judge.specs.declared.judged.Judged.{Judged}
 use Rattle.cs_judge.specs.declared.judged.Judged.TheVariants as judged_as
-use Rattle.cs_judge.specs.Answer.{IsAnswer, IsMade, IsUnknown, IsUnknownText, IsUnsafeText, refusal_text, unknown_outcome}
+use Rattle.cs_judge.specs.Answer.{IsAnswer, IsMade, IsUnknown, IsUnknownText, refusal_text, unknown_outcome}
 use Rattle.cs_judge.specs.Judged.{IfRefused, IsJudgement, IsRefusal}
 use Rattle.cs_maker.specs.declared.reason.Reason.{Reason}
 use Rattle.cs_maker.specs.declared.reason.Reason.TheVariants.{LeafTooLong, NoMemory, NoReach, NoScript, NotChecked, TooDeep, TooManyClasses}
@@ -34,15 +34,22 @@ use Rattle.cs_theorem.specs.declared.check_fault.CheckFault.{CheckFault}
 use Rattle.cs_args.specs.Asked.{AskedCheck, AskedJudge, AskedMake, AskedRun}
 use Rattle.cs_io.specs.Files.{Failed}
 use Rattle.cs_files.specs.Fitting.{fitting, has_other_parts}
-use Rattle.cs_files.specs.Reads.{AndThen, Gives, GivesSome, MeansTable, PlacesIn, ReadsAs, ReadsEntries, ReadsFitting, ReadsJobs, ReadsTables, behind, planned}
+use Rattle.cs_files.specs.Reads.{AndThen, Gives, MeansTable, PlacesIn, ReadsAs, ReadsEntries, ReadsFitting, ReadsJobs, ReadsTables, planned}
+use Rattle.cs_files.specs.Asked.{IsPlanned, both_of}
 use Rattle.cs_files.specs.Response.{Ending}
+use Rattle.cs_files.specs.declared.asked.Planned.{Planned}
+use Rattle.cs_files.proofs.TroubleLemmas.{placed}
+use Rattle.cs_claims.specs.Certificate.{content}
+use Rattle.cs_claims.specs.Content.{Content}
 use Rattle.cs_files.specs.Trouble.{InAnacrontab, InCertificate, InCrontab, InDeclarations, InGathered, InScript, InWords, NoTimeZone, Trouble, Unread, trouble_status}
-use Rattle.cs_ruling.specs.Answer.{IsOfOthers, IsOrder}
-use Rattle.cs_ruling.specs.Check.{AnswersCheck, IsProofOf, verdict_text}
-use Rattle.cs_cli.specs.Judge.{AnswersJudge, AnswersMake, AnswersWanted, IsJudged, JudgesPlan, outcome_status, wanted_of}
-use Rattle.cs_ruling.specs.Safe.{IsChecked, IsSafe}
+use Rattle.cs_ruling.specs.Answer.{AnswersRun, IsOfOthers}
+use Rattle.cs_ruling.specs.Check.{AnswersCheck, FindsClaimed, IsClaimed, verdict_text}
+use Rattle.cs_cli.specs.Judge.{AnswersJudge, AnswersMake, AnswersWanted, IsJudged, outcome_status, wanted_of}
+use Rattle.cs_ruling.specs.Safe.{IsAccepted, IsChecked}
+use Rattle.cs_ruling.specs.declared.answer.Answer.TheVariants.{Runs}
+use Rattle.cs_ruling.specs.declared.check.Claimed.{Claimed}
 use Rattle.cs_ruling.proofs.CheckLemmas.{digests_of}
-use Rattle.cs_cli.specs.Theorem.{DenoteJobs, DenotesPlan, Given, Hold, HoldsIt, IsCalmPlan, IsCalmSchedule, IsGatheredSchedule, IsJudgedSafe, IsJudgedUnknown, IsJudgedUnsafe, IsOrdered, IsPrintedSchedule, IsRefused, IsSafePlan, IsSafeSchedule}
+use Rattle.cs_cli.specs.Theorem.{DenoteJobs, DenotesPlan, Given, Hold, HoldsIt, IsCalmSchedule, IsGatheredSchedule, IsJudgedSafe, IsJudgedUnknown, IsJudgedUnsafe, IsOrdered, IsPrintedSchedule, IsRefused, IsSafeSchedule}
 use Rattle.cs_place.specs.Places.{places_of}
 use Rattle.cs_place.specs.declared.places.Place.{Place}
 use Rattle.cs_ruling.specs.declared.answer.Order.{Order}
@@ -63,10 +70,6 @@ both_gave first next before after y (inr (x, one, two)) = record { value = x; on
 -- one result gives one value
 same_value : {X : Type 0} (r : Result X Trouble) (x y : X) → r ≡ Ok x → r ≡ Ok y → x ≡ y
 same_value r x y e f = cc
-
--- what was given has the property
-some_given : {X : Type 0} (R : X → Type 0) (before after : Failed) (y : X) → GivesSome R before after (Ok y) → R y
-some_given R before after y (same, (x, is, e)) = subst R (same_value (Ok y) x y e refl) is
 
 -- a file of known bytes means what was read
 file_means : {M F : Type 0} (files : List ℕ → Option (List ℕ)) (path : Text) (means : List ℕ → Result M F → Type 0) (told : F → Trouble) (before after : Failed) (m : M) (bytes : List ℕ)
@@ -123,65 +126,73 @@ plan_denoted files table anacrontab declarations given before after before' afte
       fits = subst (λ (ps : List Place). first ps ≡ None) listed fit.1;
     }
 
+-- so is a plan that was read
+plan_of : (files : List ℕ → Option (List ℕ)) (table : Text) (anacrontab : Option Text) (declarations : Text) (w : List ℕ) (failed : Failed) (given : Given) (x : Planned)
+    → Hold files table anacrontab declarations given → IsPlanned files table anacrontab declarations w failed x → DenotesPlan given x.plan
+plan_of files table anacrontab declarations w failed given x hold is =
+    plan_denoted files table anacrontab declarations given failed failed failed failed (both_of is.tables) is.tables.places x.plan hold is.read.read (placed files table is.tables.crontab is.tables.text is.tables.places is.read.text is.read.places) is.plan
+
 -- ---- `check`, and an order to run
 
-schedule : (files : List ℕ → Option (List ℕ)) (a : AskedCheck) (failed : Failed) (checked : Checked) (given : Given) (certificate : List ℕ)
+schedule : (files : List ℕ → Option (List ℕ)) (a : AskedCheck) (w : List ℕ) (failed : Failed) (x : Claimed) (checked : Checked) (given : Given) (certificate : List ℕ)
     → Hold files a.table a.anacrontab a.declarations given → files a.certificate ≡ Some certificate
-    → IsProofOf files a failed checked → IsSafePlan (plan_in checked) → IsSafeSchedule given certificate
-schedule files a failed checked given certificate hold holds proof safe = record {
+    → IsClaimed files a w failed x → IsAccepted x checked → IsSafeSchedule given certificate
+schedule files a w failed x checked given certificate hold holds read accepted = record {
   plan = plan_in checked;
-  is_plan = plan_denoted files a.table a.anacrontab a.declarations given failed failed failed failed proof.tables proof.rest.places (plan_in checked) hold proof.read proof.rest.placed proof.rest.plan;
+  is_plan = subst (DenotesPlan given) (sym accepted.plan) (plan_of files a.table a.anacrontab a.declarations w failed given x.planned hold read.planned);
   content = certificate_in checked;
-  is_certificate = file_means files a.certificate (λ bytes c. certificate_by bytes ≡ c) InCertificate failed failed (certificate_in checked) certificate holds proof.rest.certificate;
+  is_certificate = subst (λ (c : Content). certificate_by certificate ≡ Ok c) (sym accepted.certificate) (file_means files a.certificate (λ bytes c. certificate_by bytes ≡ c) InCertificate failed failed (content x.certificate) certificate holds read.certificate);
   accepted = checked.kept;
-  safe = safe;
+  safe = accepted.safe.headline;
 }
 
-calm_schedule : (files : List ℕ → Option (List ℕ)) (a : AskedCheck) (failed : Failed) (checked : Checked) (given : Given) (certificate : List ℕ)
+calm_schedule : (files : List ℕ → Option (List ℕ)) (a : AskedCheck) (w : List ℕ) (failed : Failed) (x : Claimed) (checked : Checked) (given : Given) (certificate : List ℕ)
     → Hold files a.table a.anacrontab a.declarations given → files a.certificate ≡ Some certificate
-    → IsProofOf files a failed checked → IsSafe checked → IsCalmSchedule given certificate
+    → IsClaimed files a w failed x → IsAccepted x checked → IsCalmSchedule given certificate
 unfolding schedule
-calm_schedule files a failed checked given certificate hold holds proof safe = record {
-  schedule = schedule files a failed checked given certificate hold holds proof safe.headline;
-  calm = safe.calm;
+calm_schedule files a w failed x checked given certificate hold holds read accepted = record {
+  schedule = schedule files a w failed x checked given certificate hold holds read accepted;
+  calm = accepted.safe.calm;
 }
 
-pub checked_schedule : (files : List ℕ → Option (List ℕ)) (a : AskedCheck) (before after : Failed) (ending : Ending) (given : Given) (certificate : List ℕ)
+pub checked_schedule : (files : List ℕ → Option (List ℕ)) (a : AskedCheck) (w : List ℕ) (before after : Failed) (ending : Ending) (given : Given) (certificate : List ℕ)
     → Hold files a.table a.anacrontab a.declarations given → files a.certificate ≡ Some certificate
-    → IsChecked a files before after ending → ending.status ≡ 0 → IsCalmSchedule given certificate
-checked_schedule files a before after ending given certificate hold holds answered zero =
-    let s = answered.safe zero in calm_schedule files a before s.checked given certificate hold holds s.proof s.safe
+    → IsChecked a files w before after ending → ending.status ≡ 0 → IsCalmSchedule given certificate
+checked_schedule files a w before after ending given certificate hold holds answered zero =
+    let s = answered.safe zero in calm_schedule files a w before s.claimed s.checked given certificate hold holds s.read s.accepted
 
-pub ordered_schedule : (files : List ℕ → Option (List ℕ)) (a : AskedRun) (before after : Failed) (order : Order) (given : Given) (certificate : List ℕ)
+pub ordered_schedule : (files : List ℕ → Option (List ℕ)) (a : AskedRun) (w : List ℕ) (before after : Failed) (order : Order) (given : Given) (certificate : List ℕ)
     → Hold files a.check.table a.check.anacrontab a.check.declarations given → files a.check.certificate ≡ Some certificate
-    → IsOrder a files before after order → IsOrdered given certificate a order
+    → AnswersRun a files w before after (Runs order) → IsOrdered given certificate a order
 unfolding schedule
-ordered_schedule files a before after order given certificate hold holds ordered = record {
-  schedule = schedule files a.check before order.checked given certificate hold holds ordered.proof ordered.headline;
+ordered_schedule files a w before after order given certificate hold holds (inl (t, read, ends)) = absurd ends
+ordered_schedule files a w before after order given certificate hold holds (inr (x, (same, read), ordered)) = record {
+  schedule = schedule files a.check w before x order.checked given certificate hold holds read ordered.accepted;
   plan = refl;
   content = refl;
   own = ordered.own;
   words = ordered.words;
-  digests = digests_of files a.check (certificate_in order.checked) order.digests given.crontab given.declarations certificate hold.crontab hold.declarations holds ordered.digests;
+  digests = ordered.digests ∙ digests_of files a.check (content x.certificate) x.digests given.crontab given.declarations certificate hold.crontab hold.declarations holds read.digests;
 }
 
-pub ordered_checked : (files : List ℕ → Option (List ℕ)) (a : AskedRun) (before after : Failed) (order : Order)
-    → IsOrder a files before after order → (answer : Ending) × AnswersCheck a.check files before after answer × (answer.status ≡ 0) × (answer.err ≡ order.warnings)
-ordered_checked files a before after order ordered = (_, ordered.safe, refl, refl)
+pub ordered_checked : (files : List ℕ → Option (List ℕ)) (a : AskedRun) (w : List ℕ) (before after : Failed) (order : Order)
+    → AnswersRun a files w before after (Runs order) → (answer : Ending) × AnswersCheck a.check files w before after answer × (answer.status ≡ 0) × (answer.err ≡ order.warnings)
+ordered_checked files a w before after order (inl (t, read, ends)) = absurd ends
+ordered_checked files a w before after order (inr (x, read, ordered)) = (_, inr (x, read, ordered.accepted.verdict), refl, sym ordered.notes)
 
-pub gathered_schedule : (files : List ℕ → Option (List ℕ)) (a : AskedRun) (before after : Failed) (ending : Ending) (given : Given) (certificate : List ℕ)
+pub gathered_schedule : (files : List ℕ → Option (List ℕ)) (a : AskedRun) (w : List ℕ) (before after : Failed) (x : Claimed) (ending : Ending) (given : Given) (certificate : List ℕ)
     → Hold files a.check.table a.check.anacrontab a.check.declarations given → files a.check.certificate ≡ Some certificate
-    → IsOfOthers a files before after ending → IsGatheredSchedule given certificate ending
+    → FindsClaimed files a.check w before after (Ok x) → IsOfOthers x ending → IsGatheredSchedule given certificate ending
 unfolding calm_schedule schedule
-gathered_schedule files a before after ending given certificate hold holds of_others = record {
-  schedule = calm_schedule files a.check before of_others.checked given certificate hold holds of_others.accepted.proof of_others.accepted.safe;
+gathered_schedule files a w before after x ending given certificate hold holds (same, read) of_others = record {
+  schedule = calm_schedule files a.check w before x of_others.checked given certificate hold holds read of_others.accepted;
   gathered = of_others.gathered;
   told = (ap (λ (e : Ending). e.status) of_others.told, ap (λ (e : Ending). e.out) of_others.told);
 }
 
-pub gathered_checked : (files : List ℕ → Option (List ℕ)) (a : AskedRun) (before after : Failed) (ending : Ending)
-    → IsOfOthers a files before after ending → (answer : Ending) × AnswersCheck a.check files before after answer × (answer.status ≡ 0)
-gathered_checked files a before after ending of_others = (_, of_others.safe, refl)
+pub gathered_checked : (files : List ℕ → Option (List ℕ)) (a : AskedRun) (w : List ℕ) (before after : Failed) (x : Claimed) (ending : Ending)
+    → FindsClaimed files a.check w before after (Ok x) → IsOfOthers x ending → (answer : Ending) × AnswersCheck a.check files w before after answer × (answer.status ≡ 0)
+gathered_checked files a w before after x ending read of_others = (_, inr (x, read, of_others.accepted.verdict), refl)
 
 -- ---- `judge` and `make`
 
@@ -206,14 +217,11 @@ other_found : {A : Type 0} (found other : Outcome) (n : ℕ) → found ≡ other
 other_found found other n is status differs = absurd (differs (ap outcome_status (sym is) ∙ status))
 
 -- an answer was given of a plan that the files denote
-record IsAnswered (wanted : Wanted) (given : Given) (status : ℕ) (out : List ℕ) : Type 0 where
+record IsAnswered (wanted : Wanted) (given : Given) (ending : Ending) : Type 0 where
   plan : Declared
   is_plan : DenotesPlan given plan
-  answer : Ending
   places : List Place
-  judged : IsJudged wanted plan places answer
-  same_status : answer.status ≡ status
-  same_out : answer.out ≡ out
+  judged : IsJudged wanted plan places ending
 
 -- a fault of a file ends a call with status 3 or 6
 troubled : (t : Trouble) → trouble_status t ≢ 3 → trouble_status t ≢ 6 → ⊥
@@ -227,41 +235,26 @@ troubled (InScript fault) three six = three refl
 troubled (InCertificate fault) three six = three refl
 troubled (NoTimeZone path) three six = three refl
 
-answered_by : (wanted : Wanted) (files : List ℕ → Option (List ℕ)) (a : AskedJudge) (before after : Failed) (w : List ℕ) (both : Table × JobTable) (given : Given) (r : Result Ending Trouble)
-    → Hold files a.table a.anacrontab a.declarations given → ReadsTables files a.table a.anacrontab before before (Ok both)
-    → JudgesPlan wanted files a both before after r → (behind w r).status ≢ 3 → (behind w r).status ≢ 6
-    → IsAnswered wanted given (behind w r).status (behind w r).out
-answered_by wanted files a before after w both given (Err t) hold read judged three six = absurd (troubled t three six)
-answered_by wanted files a before after w both given (Ok answer) hold read (places, placed, judged) three six =
-    let one = both_gave (ReadsFitting files places both a.declarations) (λ plan. GivesSome (IsJudged wanted plan places)) before after answer judged in
-    record {
-      plan = one.value;
-      is_plan = plan_denoted files a.table a.anacrontab a.declarations given before before before before both places one.value hold read placed one.one;
-      answer = answer;
-      places = places;
-      judged = some_given (IsJudged wanted one.value places) before after answer one.two;
-      same_status = refl;
-      same_out = refl;
-    }
-
-answered : (wanted : Wanted) (files : List ℕ → Option (List ℕ)) (a : AskedJudge) (before after : Failed) (ending : Ending) (given : Given)
-    → Hold files a.table a.anacrontab a.declarations given → AnswersWanted wanted a files before after ending → ending.status ≢ 3 → ending.status ≢ 6
-    → IsAnswered wanted given ending.status ending.out
-answered wanted files a before after ending given hold (inl (t, read, is)) three six =
+answered : (wanted : Wanted) (files : List ℕ → Option (List ℕ)) (a : AskedJudge) (w : List ℕ) (before after : Failed) (ending : Ending) (given : Given)
+    → Hold files a.table a.anacrontab a.declarations given → AnswersWanted wanted a files w before after ending → ending.status ≢ 3 → ending.status ≢ 6
+    → IsAnswered wanted given ending
+answered wanted files a w before after ending given hold (inl (t, read, is)) three six =
     let same = ap (λ (e : Ending). e.status) is in
     absurd (troubled t (λ h. three (same ∙ h)) (λ h. six (same ∙ h)))
-answered wanted files a before after ending given hold (inr (both, read, (r, judged, is))) three six =
-    let same = ap (λ (e : Ending). e.status) is in
-    subst (λ (e : Ending). IsAnswered wanted given e.status e.out) (sym is)
-    (answered_by wanted files a before after _ both given r hold read judged (λ h. three (same ∙ h)) (λ h. six (same ∙ h)))
+answered wanted files a w before after ending given hold (inr (x, (kept, read), judged)) three six = record {
+  plan = x.plan;
+  is_plan = plan_of files a.table a.anacrontab a.declarations w before given x hold read;
+  places = x.places;
+  judged = judged;
+}
 
 -- the same with its status as a number
-answered_with : (n : ℕ) → n < 3 → (wanted : Wanted) (files : List ℕ → Option (List ℕ)) (a : AskedJudge) (before after : Failed) (ending : Ending) (given : Given)
-    → Hold files a.table a.anacrontab a.declarations given → AnswersWanted wanted a files before after ending → ending.status ≡ n
-    → (k : IsAnswered wanted given ending.status ending.out) × (outcome_status k.judged.found ≡ n)
-answered_with n small wanted files a before after ending given hold is status =
-    let k = answered wanted files a before after ending given hold is (λ h. omega (arith, h, status, small)) (λ h. omega (arith, h, status, small)) in
-    (k, sym k.judged.status ∙ (k.same_status ∙ status))
+answered_with : (n : ℕ) → n < 3 → (wanted : Wanted) (files : List ℕ → Option (List ℕ)) (a : AskedJudge) (w : List ℕ) (before after : Failed) (ending : Ending) (given : Given)
+    → Hold files a.table a.anacrontab a.declarations given → AnswersWanted wanted a files w before after ending → ending.status ≡ n
+    → (k : IsAnswered wanted given ending) × (outcome_status k.judged.found ≡ n)
+answered_with n small wanted files a w before after ending given hold is status =
+    let k = answered wanted files a w before after ending given hold is (λ h. omega (arith, h, status, small)) (λ h. omega (arith, h, status, small)) in
+    (k, sym k.judged.status ∙ status)
 
 judged_well : (given : Given) (plan : Declared) (places : List Place) (judged : Judged) (found : Outcome) (text : List ℕ) → DenotesPlan given plan
     → IsJudgement plan judged → IsAnswer Verdict plan places judged found text → outcome_status found ≡ 0 → IsJudgedSafe given
@@ -277,33 +270,33 @@ judged_well given plan places (judged_as.Unsafe script shown breach) found text 
 judged_well given plan places (judged_as.Unknown reason refusal) found text denotes known is zero =
     other_found found (unknown_outcome reason) 0 is.0 zero (λ h. omega (arith, h, unknown_status reason))
 
-pub judged_safe : (files : List ℕ → Option (List ℕ)) (a : AskedJudge) (before after : Failed) (ending : Ending) (given : Given)
-    → Hold files a.table a.anacrontab a.declarations given → AnswersJudge a files before after ending → ending.status ≡ 0 → IsJudgedSafe given
-judged_safe files a before after ending given hold is zero =
-    let (k, found) = answered_with 0 (omega arith) Verdict files a before after ending given hold is zero in
-    judged_well given k.plan k.places k.judged.judged k.judged.found k.answer.out k.is_plan k.judged.known k.judged.printed found
+pub judged_safe : (files : List ℕ → Option (List ℕ)) (a : AskedJudge) (w : List ℕ) (before after : Failed) (ending : Ending) (given : Given)
+    → Hold files a.table a.anacrontab a.declarations given → AnswersJudge a files w before after ending → ending.status ≡ 0 → IsJudgedSafe given
+judged_safe files a w before after ending given hold is zero =
+    let (k, found) = answered_with 0 (omega arith) Verdict files a w before after ending given hold is zero in
+    judged_well given k.plan k.places k.judged.judged k.judged.found ending.out k.is_plan k.judged.known k.judged.printed found
 
-wanted_unsafe : (wanted : Wanted) (files : List ℕ → Option (List ℕ)) (a : AskedJudge) (before after : Failed) (ending : Ending) (given : Given)
-    → Hold files a.table a.anacrontab a.declarations given → AnswersWanted wanted a files before after ending → ending.status ≡ 1 → IsJudgedUnsafe given ending.out
-wanted_unsafe wanted files a before after ending given hold is one =
-    let (k, found) = answered_with 1 (omega arith) wanted files a before after ending given hold is one in
+wanted_unsafe : (wanted : Wanted) (files : List ℕ → Option (List ℕ)) (a : AskedJudge) (w : List ℕ) (before after : Failed) (ending : Ending) (given : Given)
+    → Hold files a.table a.anacrontab a.declarations given → AnswersWanted wanted a files w before after ending → ending.status ≡ 1 → IsJudgedUnsafe given ending.out
+wanted_unsafe wanted files a w before after ending given hold is one =
+    let (k, found) = answered_with 1 (omega arith) wanted files a w before after ending given hold is one in
     let j = k.judged in
-    let story = unsafe_stands wanted k.plan k.places j.judged j.found k.answer.out j.known j.printed (unsafe_found j.found found) in
+    let story = unsafe_stands wanted k.plan k.places j.judged j.found ending.out j.known j.printed (unsafe_found j.found found) in
     record {
       plan = k.plan;
       is_plan = k.is_plan;
       places = k.places;
       script = story.script;
       shown = story.shown;
-      printed = subst (IsUnsafeText k.plan k.places story.script story.shown) k.same_out story.told;
+      printed = story.told;
       legal = story.shows.breaks.unsafe.legal;
       in_time = story.shows.breaks.unsafe.in_time;
       unsafe = story.shows.breaks.unsafe.unsafe;
       first = story.shows.breaks.first;
     }
 
-pub judged_unsafe : (files : List ℕ → Option (List ℕ)) (a : AskedJudge) (before after : Failed) (ending : Ending) (given : Given)
-    → Hold files a.table a.anacrontab a.declarations given → AnswersJudge a files before after ending → ending.status ≡ 1 → IsJudgedUnsafe given ending.out
+pub judged_unsafe : (files : List ℕ → Option (List ℕ)) (a : AskedJudge) (w : List ℕ) (before after : Failed) (ending : Ending) (given : Given)
+    → Hold files a.table a.anacrontab a.declarations given → AnswersJudge a files w before after ending → ending.status ≡ 1 → IsJudgedUnsafe given ending.out
 judged_unsafe = wanted_unsafe Verdict
 
 refusal_behind : (plan : Declared) (reason : Reason) (refusal : Option CheckFault) (text : List ℕ) → IfRefused (judged_as.Unknown reason refusal) (IsRefusal plan)
@@ -323,11 +316,11 @@ not_known given plan places (judged_as.Unknown reason refusal) found text denote
   printed = refusal_behind plan reason refusal text known.refused is.1;
 }
 
-pub judged_unknown : (files : List ℕ → Option (List ℕ)) (a : AskedJudge) (before after : Failed) (ending : Ending) (given : Given)
-    → Hold files a.table a.anacrontab a.declarations given → AnswersJudge a files before after ending → ending.status ≡ 2 → IsJudgedUnknown given ending.out
-judged_unknown files a before after ending given hold is two =
-    let (k, found) = answered_with 2 (omega arith) Verdict files a before after ending given hold is two in
-    subst (IsJudgedUnknown given) k.same_out (not_known given k.plan k.places k.judged.judged k.judged.found k.answer.out k.is_plan k.judged.known k.judged.printed found)
+pub judged_unknown : (files : List ℕ → Option (List ℕ)) (a : AskedJudge) (w : List ℕ) (before after : Failed) (ending : Ending) (given : Given)
+    → Hold files a.table a.anacrontab a.declarations given → AnswersJudge a files w before after ending → ending.status ≡ 2 → IsJudgedUnknown given ending.out
+judged_unknown files a w before after ending given hold is two =
+    let (k, found) = answered_with 2 (omega arith) Verdict files a w before after ending given hold is two in
+    not_known given k.plan k.places k.judged.judged k.judged.found ending.out k.is_plan k.judged.known k.judged.printed found
 
 made_well : (given : Given) (plan : Declared) (places : List Place) (judged : Judged) (found : Outcome) (text : List ℕ) → DenotesPlan given plan
     → IsJudgement plan judged → IsMade plan places judged found text → outcome_status found ≡ 0 → IsPrintedSchedule given text
@@ -356,13 +349,12 @@ is_made : (compact : Bool) (plan : Declared) (places : List Place) (judged : Jud
 is_made true plan places judged found text is = is.1
 is_made false plan places judged found text is = is
 
-pub made_safe : (files : List ℕ → Option (List ℕ)) (a : AskedMake) (before after : Failed) (ending : Ending) (given : Given)
-    → Hold files a.judge.table a.judge.anacrontab a.judge.declarations given → AnswersMake a files before after ending → ending.status ≡ 0 → IsPrintedSchedule given ending.out
-made_safe files a before after ending given hold is zero =
-    let (k, found) = answered_with 0 (omega arith) (wanted_of a.compact) files a.judge before after ending given hold is zero in
-    subst (IsPrintedSchedule given) k.same_out
-    (made_well given k.plan k.places k.judged.judged k.judged.found k.answer.out k.is_plan k.judged.known (is_made a.compact k.plan k.places k.judged.judged k.judged.found k.answer.out k.judged.printed) found)
+pub made_safe : (files : List ℕ → Option (List ℕ)) (a : AskedMake) (w : List ℕ) (before after : Failed) (ending : Ending) (given : Given)
+    → Hold files a.judge.table a.judge.anacrontab a.judge.declarations given → AnswersMake a files w before after ending → ending.status ≡ 0 → IsPrintedSchedule given ending.out
+made_safe files a w before after ending given hold is zero =
+    let (k, found) = answered_with 0 (omega arith) (wanted_of a.compact) files a.judge w before after ending given hold is zero in
+    made_well given k.plan k.places k.judged.judged k.judged.found ending.out k.is_plan k.judged.known (is_made a.compact k.plan k.places k.judged.judged k.judged.found ending.out k.judged.printed) found
 
-pub made_unsafe : (files : List ℕ → Option (List ℕ)) (a : AskedMake) (before after : Failed) (ending : Ending) (given : Given)
-    → Hold files a.judge.table a.judge.anacrontab a.judge.declarations given → AnswersMake a files before after ending → ending.status ≡ 1 → IsJudgedUnsafe given ending.out
-made_unsafe files a before after ending given hold is one = wanted_unsafe (wanted_of a.compact) files a.judge before after ending given hold is one
+pub made_unsafe : (files : List ℕ → Option (List ℕ)) (a : AskedMake) (w : List ℕ) (before after : Failed) (ending : Ending) (given : Given)
+    → Hold files a.judge.table a.judge.anacrontab a.judge.declarations given → AnswersMake a files w before after ending → ending.status ≡ 1 → IsJudgedUnsafe given ending.out
+made_unsafe files a w before after ending given hold is one = wanted_unsafe (wanted_of a.compact) files a.judge w before after ending given hold is one

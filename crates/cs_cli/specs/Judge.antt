@@ -1,7 +1,5 @@
 -- What is answered to `judge` and to `make`: how the tables stand as they are declared.
-use Rattle.std.specs.Prelude.{◌≡◌, ℕ, Bool, true, false, List, [], ◌++◌, Option, Some, None, Result}
-use Rattle.cs_crontab.specs.Crontab.{Table}
-use Rattle.cs_anacrontab.specs.Anacrontab.{Table as JobTable}
+use Rattle.std.specs.Prelude.{◌≡◌, ℕ, Bool, true, false, List, [], ◌++◌, Option, Some, None}
 use Rattle.cs_plan.specs.Plan.{Declared}
 use Rattle.cs_judge.specs.Answer.{IsAnswer}
 use Rattle.cs_judge.specs.Judged.{IsJudgement}
@@ -16,8 +14,7 @@ use Rattle.cs_report.specs.Warning.{plan_notes}
 use Rattle.cs_args.specs.Asked.{AskedJudge, AskedMake}
 use Rattle.cs_io.specs.Files.{Failed}
 use Rattle.cs_files.specs.Response.{Ending}
-use Rattle.cs_files.specs.Reads.{AndThen, Answered, GivesSome, ReadsFitting, ReadsTables, WithPlaces}
-use Rattle.cs_files.specs.Trouble.{Trouble}
+use Rattle.cs_files.specs.Asked.{Answers, FindsPlan}
 use Rattle.cs_place.specs.declared.places.Place.{Place}
 use Rattle.cs_ruling.specs.Check.{fault_places}
 
@@ -49,30 +46,23 @@ pub record IsJudged (wanted : Wanted) (plan : Declared) (places : List Place) (e
   pub refused : AreRefusalNotes plan places judged notes
   pub err : ending.err ≡ plan_notes plan ++ notes
 
--- the declarations are read, and the plan is judged, with the places of the table
-abbrev pub JudgesPlan : Wanted → (List ℕ → Option (List ℕ)) → AskedJudge → Table × JobTable → Failed
-    → Failed → Result Ending Trouble → Type 0
-JudgesPlan wanted files a tables = WithPlaces files a.table tables.0 (λ places.
-    AndThen (ReadsFitting files places tables a.declarations)
-    (λ plan. GivesSome (IsJudged wanted plan places)))
-
 -- what is answered where this is wanted: how the plan was found, or the first fault of a file, and no
 -- file is read before its own turn
-abbrev pub AnswersWanted : Wanted → AskedJudge → (List ℕ → Option (List ℕ)) → Failed → Failed
+abbrev pub AnswersWanted : Wanted → AskedJudge → (List ℕ → Option (List ℕ)) → List ℕ → Failed → Failed
     → Ending → Type 0
-AnswersWanted wanted a files =
-    Answered (ReadsTables files a.table a.anacrontab) (λ both. JudgesPlan wanted files a both)
+AnswersWanted wanted a files w = Answers (FindsPlan files a.table a.anacrontab a.declarations w)
+    (λ planned. IsJudged wanted planned.plan planned.places)
 
 -- `judge` prints a verdict
-abbrev pub AnswersJudge : AskedJudge → (List ℕ → Option (List ℕ)) → Failed → Failed → Ending
-    → Type 0
-AnswersJudge a files = AnswersWanted Verdict a files
+abbrev pub AnswersJudge : AskedJudge → (List ℕ → Option (List ℕ)) → List ℕ → Failed → Failed
+    → Ending → Type 0
+AnswersJudge = AnswersWanted Verdict
 
 -- `make` prints the certificate of a plan that is safe, with `--compact` a compact one
 abbrev pub wanted_of : Bool → Wanted
 wanted_of true = Compact
 wanted_of false = Certificate
 
-abbrev pub AnswersMake : AskedMake → (List ℕ → Option (List ℕ)) → Failed → Failed → Ending
+abbrev pub AnswersMake : AskedMake → (List ℕ → Option (List ℕ)) → List ℕ → Failed → Failed → Ending
     → Type 0
-AnswersMake a files = AnswersWanted (wanted_of a.compact) a.judge files
+AnswersMake a = AnswersWanted (wanted_of a.compact) a.judge

@@ -13,24 +13,26 @@ ghost use Rattle.cs_plan.specs.Plan.{Declared, IsWhole, as_plan};
 ghost use Rattle.cs_io.specs.Files.{Failed};
 ghost use Rattle.cs_files.specs.Response.{Ending};
 ghost use Rattle.cs_theorem.specs.Accepted.{IsAccepted};
-ghost use Rattle.cs_ruling.specs.Answer.{IsOfOthers, IsOrder};
+ghost use Rattle.cs_ruling.specs.Answer.{AnswersRun, IsOfOthers};
 ghost use Rattle.cs_cli.specs.Judge.{AnswersJudge, AnswersMake};
-ghost use Rattle.cs_ruling.specs.Check.{AnswersCheck};
+ghost use Rattle.cs_ruling.specs.Check.{AnswersCheck, FindsClaimed};
 ghost use Rattle.cs_ruling.specs.Safe.{IsChecked};
 ghost use Rattle.cs_cli.specs.Theorem.{Given, Hold, IsCalmSchedule, IsGatheredSchedule};
 ghost use Rattle.cs_cli.specs.Theorem.{IsJudgedSafe, IsJudgedUnknown, IsJudgedUnsafe};
 ghost use Rattle.cs_cli.specs.Theorem.{IsOrdered, IsPrintedSchedule};
+ghost use Rattle.cs_ruling.specs.declared.answer.Answer.TheVariants.{Runs};
 ghost use Rattle.cs_ruling.specs.declared.answer.Order.{Order};
+ghost use Rattle.cs_ruling.specs.declared.check.Claimed.{Claimed};
 
 /// Lemma. Where `check` ends with status 0, its files denote two tables, declarations that join
 /// with them to a plan, and a certificate that the rules accept. Every legal history of that plan
 /// in which each run ends within its declared time is safe, and each minute is calm.
 pub fn what_check_says()
-    ensures { (files : List ℕ → Option (List ℕ)) (a : AskedCheck) (before after : Failed)
+    ensures { (files : List ℕ → Option (List ℕ)) (a : AskedCheck) (w : List ℕ) (before after : Failed)
         (ending : Ending) (given : Given) (certificate : List ℕ)
         → Hold files a.table a.anacrontab a.declarations given
         → files a.certificate ≡ Some certificate
-        → IsChecked a files before after ending → ending.status ≡ 0
+        → IsChecked a files w before after ending → ending.status ≡ 0
         → IsCalmSchedule given certificate }
 {}
 
@@ -38,23 +40,26 @@ pub fn what_check_says()
 /// status 0 and warn of the same. Where `run` refuses a crontab since it was gathered, the plan is
 /// such a one too, and `check` would end with status 0.
 pub fn what_an_order_says()
-    ensures order { (files : List ℕ → Option (List ℕ)) (a : AskedRun) (before after : Failed)
-        (order : Order) (given : Given) (certificate : List ℕ)
+    ensures order { (files : List ℕ → Option (List ℕ)) (a : AskedRun) (w : List ℕ)
+        (before after : Failed) (order : Order) (given : Given) (certificate : List ℕ)
         → Hold files a.check.table a.check.anacrontab a.check.declarations given
         → files a.check.certificate ≡ Some certificate
-        → IsOrder a files before after order → IsOrdered given certificate a order }
-    ensures order_checked { (files : List ℕ → Option (List ℕ)) (a : AskedRun)
-        (before after : Failed) (order : Order) → IsOrder a files before after order
-        → (answer : Ending) × AnswersCheck a.check files before after answer
+        → AnswersRun a files w before after (Runs order) → IsOrdered given certificate a order }
+    ensures order_checked { (files : List ℕ → Option (List ℕ)) (a : AskedRun) (w : List ℕ)
+        (before after : Failed) (order : Order) → AnswersRun a files w before after (Runs order)
+        → (answer : Ending) × AnswersCheck a.check files w before after answer
         × (answer.status ≡ 0) × (answer.err ≡ order.warnings) }
-    ensures gathered { (files : List ℕ → Option (List ℕ)) (a : AskedRun) (before after : Failed)
-        (ending : Ending) (given : Given) (certificate : List ℕ)
+    ensures gathered { (files : List ℕ → Option (List ℕ)) (a : AskedRun) (w : List ℕ)
+        (before after : Failed) (x : Claimed) (ending : Ending) (given : Given)
+        (certificate : List ℕ)
         → Hold files a.check.table a.check.anacrontab a.check.declarations given
         → files a.check.certificate ≡ Some certificate
-        → IsOfOthers a files before after ending → IsGatheredSchedule given certificate ending }
-    ensures gathered_checked { (files : List ℕ → Option (List ℕ)) (a : AskedRun)
-        (before after : Failed) (ending : Ending) → IsOfOthers a files before after ending
-        → (answer : Ending) × AnswersCheck a.check files before after answer
+        → FindsClaimed files a.check w before after (Ok x)
+        → IsOfOthers x ending → IsGatheredSchedule given certificate ending }
+    ensures gathered_checked { (files : List ℕ → Option (List ℕ)) (a : AskedRun) (w : List ℕ)
+        (before after : Failed) (x : Claimed) (ending : Ending)
+        → FindsClaimed files a.check w before after (Ok x) → IsOfOthers x ending
+        → (answer : Ending) × AnswersCheck a.check files w before after answer
         × (answer.status ≡ 0) }
 {}
 
@@ -63,19 +68,19 @@ pub fn what_an_order_says()
 /// status 1, it prints what a history that isn't safe breaks first, and its script; with 2, a
 /// reason, and perhaps the first rule that a certificate doesn't meet.
 pub fn what_judge_says()
-    ensures safe { (files : List ℕ → Option (List ℕ)) (a : AskedJudge) (before after : Failed)
-        (ending : Ending) (given : Given)
+    ensures safe { (files : List ℕ → Option (List ℕ)) (a : AskedJudge) (w : List ℕ)
+        (before after : Failed) (ending : Ending) (given : Given)
         → Hold files a.table a.anacrontab a.declarations given
-        → AnswersJudge a files before after ending → ending.status ≡ 0 → IsJudgedSafe given }
-    ensures broken { (files : List ℕ → Option (List ℕ)) (a : AskedJudge) (before after : Failed)
-        (ending : Ending) (given : Given)
+        → AnswersJudge a files w before after ending → ending.status ≡ 0 → IsJudgedSafe given }
+    ensures broken { (files : List ℕ → Option (List ℕ)) (a : AskedJudge) (w : List ℕ)
+        (before after : Failed) (ending : Ending) (given : Given)
         → Hold files a.table a.anacrontab a.declarations given
-        → AnswersJudge a files before after ending → ending.status ≡ 1
+        → AnswersJudge a files w before after ending → ending.status ≡ 1
         → IsJudgedUnsafe given ending.out }
-    ensures unknown { (files : List ℕ → Option (List ℕ)) (a : AskedJudge) (before after : Failed)
-        (ending : Ending) (given : Given)
+    ensures unknown { (files : List ℕ → Option (List ℕ)) (a : AskedJudge) (w : List ℕ)
+        (before after : Failed) (ending : Ending) (given : Given)
         → Hold files a.table a.anacrontab a.declarations given
-        → AnswersJudge a files before after ending → ending.status ≡ 2
+        → AnswersJudge a files w before after ending → ending.status ≡ 2
         → IsJudgedUnknown given ending.out }
 {}
 
@@ -83,15 +88,15 @@ pub fn what_judge_says()
 /// plan that its files denote, which is safe and calm; where it ends with status 1, the script of
 /// a history that isn't safe.
 pub fn what_make_says()
-    ensures safe { (files : List ℕ → Option (List ℕ)) (a : AskedMake) (before after : Failed)
-        (ending : Ending) (given : Given)
+    ensures safe { (files : List ℕ → Option (List ℕ)) (a : AskedMake) (w : List ℕ)
+        (before after : Failed) (ending : Ending) (given : Given)
         → Hold files a.judge.table a.judge.anacrontab a.judge.declarations given
-        → AnswersMake a files before after ending → ending.status ≡ 0
+        → AnswersMake a files w before after ending → ending.status ≡ 0
         → IsPrintedSchedule given ending.out }
-    ensures broken { (files : List ℕ → Option (List ℕ)) (a : AskedMake) (before after : Failed)
-        (ending : Ending) (given : Given)
+    ensures broken { (files : List ℕ → Option (List ℕ)) (a : AskedMake) (w : List ℕ)
+        (before after : Failed) (ending : Ending) (given : Given)
         → Hold files a.judge.table a.judge.anacrontab a.judge.declarations given
-        → AnswersMake a files before after ending → ending.status ≡ 1
+        → AnswersMake a files w before after ending → ending.status ≡ 1
         → IsJudgedUnsafe given ending.out }
 {}
 

@@ -4,7 +4,8 @@
 mod judge;
 mod laws;
 
-pub use judge::{answer_judge, answer_make};
+pub use cs_judge::Wanted;
+pub use judge::{answer_judge, wanted_of};
 pub use laws::{
     what_an_order_says, what_check_says, what_judge_says, what_make_says, what_version_1_says,
 };

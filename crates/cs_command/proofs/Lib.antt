@@ -1,6 +1,4 @@
-pub mod Calls
 pub mod Found
 pub mod Longer
 pub mod Parted
 pub mod Passed
-pub mod Percents

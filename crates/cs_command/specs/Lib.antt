@@ -1,4 +1,3 @@
 pub mod Locks
 pub mod Timeouts
 pub mod Words
-pub mod RunParts

@@ -5,10 +5,9 @@ use Rattle.std.specs.List.{slice_split, starts_with}
 use Rattle.cs_table.specs.SettingReading.{◌>>=◌}
 use Rattle.cs_table.specs.Text.{after, begins_with, is_blank, is_nothing}
 use Rattle.cs_crontab.specs.Command.{parts_from, pieces_of}
-use Rattle.cs_command.specs.RunParts.{is_among}
 use Rattle.cs_history.specs.declared.mode.Mode.{Mode}
 use Rattle.cs_history.specs.declared.mode.Mode.TheVariants as modes
-use Rattle.cs_command.specs.Words.{behind_front, behind_all, behind_one, behind_plain, behind_this, behind_word, count_of, first_word, is_one_of, names_lock, word_at}
+use Rattle.cs_command.specs.Words.{behind_front, behind_all, behind_one, behind_plain, behind_this, behind_word, count_of, first_word, is_among, is_one_of, names_lock, word_at}
 use Rattle.cs_command.specs.declared.named.Kind.TheVariants.{Locks, Leaves}
 use Rattle.cs_command.specs.declared.lock.Lock.{Lock}
 use Rattle.cs_command.specs.declared.lock.Lock.TheVariants.{Absent, Of, Unread}

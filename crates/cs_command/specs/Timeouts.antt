@@ -1,9 +1,8 @@
 -- How long a command may run at most, as timeout(1) ends it: `timeout [-k time] time command`.
-use Rattle.std.specs.Prelude.{ℕ, List, [], ◌∷◌, length, codes, bytes_eq, drop, min, ◌+◌, ◌*◌, ◌^◌, ◌==◌, nat_le, Bool, false, ◌&&◌, if◌then◌else◌, Option, None, Some, option_map, unwrap_or, not}
+use Rattle.std.specs.Prelude.{ℕ, List, length, codes, bytes_eq, drop, min, ◌+◌, ◌*◌, ◌^◌, ◌==◌, nat_le, Bool, false, ◌&&◌, ◌||◌, if◌then◌else◌, Option, None, Some, option_map, unwrap_or, not}
 use Rattle.std.specs.Int.{div_ceil}
 use Rattle.cs_table.specs.Text.{after, begins_with, decimal, front, is_digit, is_nothing}
 use Rattle.std.specs.List.{list_any}
-use Rattle.cs_command.specs.RunParts.{is_among}
 use Rattle.cs_table.specs.SettingReading.{◌>>=◌}
 use Rattle.cs_history.specs.Plan.{waits_in}
 use Rattle.cs_plan.specs.Plain.{is_possible_max}
@@ -20,7 +19,7 @@ MOST = 1_000_000
 -- the seconds of a unit: `s` or none, `m` for minutes, `h` for hours, `d` for days
 unfoldable pub unit_of : List ℕ → Option ℕ
 unit_of suffix =
-    if is_among ([] ∷ codes "s" ∷ []) suffix then Some 1
+    if is_nothing suffix || bytes_eq suffix (codes "s") then Some 1
     else if bytes_eq suffix (codes "m") then Some 60
     else if bytes_eq suffix (codes "h") then Some 3_600
     else if bytes_eq suffix (codes "d") then Some 86_400

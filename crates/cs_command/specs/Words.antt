@@ -5,11 +5,18 @@ use Rattle.std.specs.Char.{is_ascii_alphanumeric}
 use Rattle.std.specs.List.{ends_with, list_all, list_any, slice_split, starts_with}
 use Rattle.cs_table.specs.Text.{after, front, is_blank, is_nothing, is_solid, begins_with, is_digit}
 use Rattle.cs_table.specs.SettingReading.{◌>>=◌}
-use Rattle.cs_command.specs.RunParts.{is_inner, is_of, is_unsigned}
 use Rattle.cs_command.specs.declared.named.Kind.{Kind}
 use Rattle.cs_command.specs.declared.named.Kind.TheVariants.{Locks, Leaves, Limits}
 use Rattle.cs_command.specs.declared.words.Class.{Class}
 use Rattle.cs_command.specs.declared.words.Class.TheVariants.{Inner, Unsigned, Quoted, Name}
+
+-- the byte is one of these
+abbrev pub is_of : List ℕ → ℕ → Bool
+is_of bytes byte = list_any (λ b. b == byte) bytes
+
+-- the word is one of these
+abbrev pub is_among : List (List ℕ) → List ℕ → Bool
+is_among words word = list_any (λ w. bytes_eq w word) words
 
 -- the word is one of those in the list, which have a blank between them
 abbrev pub is_one_of : List ℕ → List ℕ → Bool
@@ -19,8 +26,12 @@ is_one_of list word = list_any (λ known. bytes_eq known word) (slice_split (λ 
 unfoldable pub is_plain_byte : ℕ → Bool
 is_plain_byte byte = is_ascii_alphanumeric byte || is_of (codes "_./:=@%+,-") byte
 
-unfoldable pub is_quoted_byte : ℕ → Bool
+abbrev pub is_quoted_byte : ℕ → Bool
 is_quoted_byte byte = is_plain_byte byte || is_blank byte
+
+-- these end the words of a program, or turn its input or output (sh(1))
+abbrev pub is_sign : ℕ → Bool
+is_sign byte = is_of (codes ";&|()<>") byte
 
 -- a byte of a name
 abbrev pub is_name_byte : ℕ → Bool
@@ -28,8 +39,8 @@ is_name_byte byte = is_ascii_alphanumeric byte || byte == 95
 
 -- bytes that stand together
 abbrev pub holds : Class → ℕ → Bool
-holds Inner = is_inner
-holds Unsigned = is_unsigned
+holds Inner = λ byte. not (is_blank byte || is_sign byte)
+holds Unsigned = λ byte. not (is_sign byte)
 holds Quoted = is_quoted_byte
 holds Name = is_name_byte
 

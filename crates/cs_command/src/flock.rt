@@ -1,8 +1,8 @@
 //! A plain call of flock(1), as util-linux has it: options, the path of a file, and a program.
 ghost use Rattle.std.specs.Prelude.{◌≡◌, false, length, option_map};
 ghost use Rattle.cs_command.specs.Locks.{asked_in, behind_c, behind_option, behind_redirection};
-ghost use Rattle.cs_command.specs.Locks.{behind_sign, call_in, called, is_at_once, is_exclusive};
-ghost use Rattle.cs_command.specs.Locks.{is_held, is_program, is_shared, mode_of, with_option};
+ghost use Rattle.cs_command.specs.Locks.{behind_sign, call_in, is_at_once, is_exclusive};
+ghost use Rattle.cs_command.specs.Locks.{is_held, is_program, is_shared, with_option};
 ghost use Rattle.cs_command.specs.Words.{behind_all};
 
 use crate::fronts::{begins_with, behind_fronts};
@@ -86,17 +86,6 @@ fn options(text: &[u8]) -> ((bool, bool), &[u8])
     (asked, rest)
 }
 
-fn mode_of(asked: (bool, bool)) -> Option<Mode>
-    ensures { result ≡ mode_of asked }
-{
-    match asked {
-        (false, false) => Some(Mode::Wait),
-        (false, true) => Some(Mode::Try),
-        (true, false) => Some(Mode::Shared),
-        (true, true) => None,
-    }
-}
-
 // ---- the program
 
 /// What stands behind `<`, `>`, `>>`, `2>` or `2>>`; nothing where none is at the front.
@@ -177,30 +166,25 @@ fn is_held(text: &[u8], path: &[u8], behind: &[u8]) -> bool
         && has_one_place(common_path(path), text)
 }
 
-/// The file and the mode of a call, of which the words behind `flock` stand in the text; and what
-/// stands behind the path.
-fn called<'t>(text: &[u8], rest: &'t [u8]) -> Option<((&'t [u8], Mode), &'t [u8])>
-    ensures { option_map (λ call. ((call.0.0.now, call.0.1), call.1.now)) result
-        ≡ called text.now rest.now }
-{
-    let (asked, behind) = options(rest);
-    let (path, behind) = word_at(behind)?;
-    if !is_held(text, path, behind) {
-        return None;
-    }
-    let mode = mode_of(asked)?;
-    Some(((path, mode), behind))
-}
-
 /// The file and the mode of the lock of a plain call, and what stands behind the path.
 #[tactic(auto, unfolding(crate::specs::Locks::call_in))]
 pub(crate) fn call_in(text: &[u8]) -> Option<((&[u8], Mode), &[u8])>
     ensures { option_map (λ call. ((call.0.0.now, call.0.1), call.1.now)) result
         ≡ call_in text.now }
 {
-    let behind = behind_fronts(text);
-    if !is_one_of(b"flock /bin/flock /usr/bin/flock", first_word(behind)) {
+    let rest = behind_fronts(text);
+    if !is_one_of(b"flock /bin/flock /usr/bin/flock", first_word(rest)) {
         return None;
     }
-    called(text, behind_word(behind))
+    let (asked, behind) = options(behind_word(rest));
+    let (path, behind) = word_at(behind)?;
+    if !is_held(text, path, behind) {
+        return None;
+    }
+    match asked {
+        (false, false) => Some(((path, Mode::Wait), behind)),
+        (false, true) => Some(((path, Mode::Try), behind)),
+        (true, false) => Some(((path, Mode::Shared), behind)),
+        (true, true) => None,
+    }
 }

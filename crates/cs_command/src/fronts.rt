@@ -6,8 +6,7 @@ ghost use Rattle.cs_command.specs.Words.{behind_front, behind_guard, behind_nice
 ghost use Rattle.cs_command.specs.Words.{behind_all};
 
 use crate::words::{
-    Class, behind_plain, behind_this, behind_word, behind_words, first_word, is_name_byte,
-    is_one_of, split_front,
+    Class, behind_plain, behind_this, behind_word, behind_words, first_word, is_one_of, split_front,
 };
 
 pub(crate) fn begins_with(byte: u8, text: &[u8]) -> bool
@@ -26,7 +25,7 @@ pub(crate) fn is_setting(word: &[u8]) -> bool
 {
     match word {
         [first, others @ ..] => {
-            is_name_byte(*first)
+            Class::Name.holds(*first)
                 && !first.is_ascii_digit()
                 && begins_with(b'=', split_front(Class::Name, others).1)
         }

@@ -1,7 +1,6 @@
 //! What a command of a table runs, as far as it is read: its lock, its time limit, its parts.
 #![tactic(auto)]
 
-mod call;
 mod durations;
 mod flock;
 mod fronts;

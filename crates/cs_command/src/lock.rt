@@ -1,7 +1,7 @@
 //! The lock that a command of a crontab holds.
-ghost use Rattle.std.specs.Prelude.{◌≡◌, IfOk, option_map};
+ghost use Rattle.std.specs.Prelude.{◌≡◌, IfOk};
 ghost use Rattle.cs_crontab.specs.Command.{parts_from, pieces_of};
-ghost use Rattle.cs_command.specs.Locks.{IsLock, alone, call_in, lock_of, real_path};
+ghost use Rattle.cs_command.specs.Locks.{IsLock, alone, lock_of, real_path};
 
 use crate::flock::call_in;
 use crate::named::names_lock;
@@ -46,26 +46,18 @@ fn real_path(alloc: Global, path: &[u8]) -> Result<Vec<u8>, AllocError>
     Ok(file)
 }
 
-/// The lock of a plain call in the text.
-fn lock_in(alloc: Global, text: &[u8]) -> Result<Option<(Bytes, Mode)>, AllocError>
-    ensures { IfOk result (λ lock. lock
-        ≡ option_map (λ call. (real_path call.0.0, call.0.1)) (call_in text.now)) }
+/// The lock of the command: that of a plain call in what the shell is given.
+pub fn own_lock(alloc: Global, command: &[u8]) -> Result<Option<(Bytes, Mode)>, AllocError>
+    ensures { IfOk result (λ lock. lock ≡ lock_of command.now) }
 {
-    match call_in(text) {
+    let Some(text) = shell_text(alloc, command)? else {
+        return Ok(None);
+    };
+    match call_in(text.as_slice()) {
         Some(((path, mode), _)) => {
             let file = real_path(alloc, path)?;
             Ok(Some((Bytes::from_vec(file), mode)))
         }
-        None => Ok(None),
-    }
-}
-
-/// The lock of the command.
-pub fn own_lock(alloc: Global, command: &[u8]) -> Result<Option<(Bytes, Mode)>, AllocError>
-    ensures { IfOk result (λ lock. lock ≡ lock_of command.now) }
-{
-    match shell_text(alloc, command)? {
-        Some(text) => lock_in(alloc, text.as_slice()),
         None => Ok(None),
     }
 }

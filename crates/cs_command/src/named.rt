@@ -1,6 +1,6 @@
 //! Which programs a text names, whatever a shell makes of it.
 ghost use Rattle.std.specs.Prelude.{◌≡◌};
-ghost use Rattle.cs_command.specs.Words.{count_of, is_kind, is_leaver, is_locker, is_own};
+ghost use Rattle.cs_command.specs.Words.{count_of, is_kind, is_leaver, is_own};
 ghost use Rattle.cs_command.specs.Words.{is_parting, is_runner, name_from, names_lock};
 
 use crate::fronts::begins_with;
@@ -33,15 +33,6 @@ fn name_of(word: &[u8]) -> &[u8]
     name
 }
 
-#[tactic(auto, unfolding(crate::specs::Words::is_locker))]
-fn is_locker(name: &[u8]) -> bool
-    ensures { result ≡ is_locker name.now }
-{
-    let names = b"flock lockfile lockfile-create dotlockfile setlock s6-setlock chpst run-one solo \
-        lckdo with-lock-ex sem lockrun";
-    is_one_of(names, name)
-}
-
 #[tactic(auto, unfolding(crate::specs::Words::is_leaver))]
 fn is_leaver(name: &[u8]) -> bool
     ensures { result ≡ is_leaver name.now }
@@ -71,12 +62,15 @@ pub(crate) fn is_own(word: &[u8]) -> bool
 }
 
 /// Whether the word is a program of that kind, or a path to one.
-#[tactic(auto, unfolding(crate::specs::Words::is_kind))]
+#[tactic(auto, unfolding(crate::specs::Words::is_kind, crate::specs::Words::is_locker))]
 fn is_kind(kind: Kind, word: &[u8]) -> bool
     ensures { result ≡ is_kind kind word.now }
 {
+    let lockers =
+        b"flock lockfile lockfile-create dotlockfile setlock s6-setlock chpst run-one solo \
+        lckdo with-lock-ex sem lockrun";
     match kind {
-        Kind::Locks => word.ends_with(b".flock".as_slice()) || is_locker(name_of(word)),
+        Kind::Locks => { word.ends_with(b".flock".as_slice()) || is_one_of(lockers, name_of(word)) }
         Kind::Leaves => is_leaver(name_of(word)),
         Kind::Limits => name_of(word) == b"timeout".as_slice(),
     }

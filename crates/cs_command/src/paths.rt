@@ -1,7 +1,7 @@
 //! Which file the path of a lock file is, and how often it stands in a text.
 ghost use Rattle.std.specs.Prelude.{◌≡◌, ◌==◌, ◌∷◌, [], codes, count_by, option_map};
 ghost use Rattle.std.specs.List.{slice_split};
-ghost use Rattle.cs_command.specs.RunParts.{is_among};
+ghost use Rattle.cs_command.specs.Words.{is_among};
 ghost use Rattle.cs_command.specs.Locks.{behind_place, behind_var, common_path, has_one_place, is_below};
 ghost use Rattle.cs_command.specs.Locks.{is_file};
 

@@ -1,7 +1,7 @@
 //! How long a command may run at most, as timeout(1) ends it.
 ghost use Rattle.std.specs.Prelude.{◌≡◌, option_map};
 ghost use Rattle.cs_command.specs.Timeouts.{asked_for, behind_signal, kill_at, limit_at, limit_for};
-ghost use Rattle.cs_command.specs.Timeouts.{limit_in, limit_of, program_of, run_in, time_limit};
+ghost use Rattle.cs_command.specs.Timeouts.{limit_in, program_of, run_in, time_limit};
 
 use crate::durations::seconds_of;
 use crate::flock::{call_in, is_program};
@@ -51,29 +51,23 @@ fn limit_for(waits: bool, seconds: Option<u32>, kill: Option<u32>) -> Option<u64
     }
 }
 
-/// The limit that the words behind `timeout` tell.
+// ---- the command
+
+/// The limit that a call of timeout(1) sets to a program that may not leave it.
 #[tactic(auto, unfolding(crate::specs::Timeouts::limit_of))]
-fn limit_of(waits: bool, rest: &[u8]) -> Option<u64>
-    ensures { result ≡ limit_of waits rest.now }
+fn limit_at(waits: bool, text: &[u8]) -> Option<u64>
+    ensures { result ≡ limit_at (waits, text.now) }
 {
+    if !is_one_of(b"timeout /bin/timeout /usr/bin/timeout", first_word(text)) {
+        return None;
+    }
+    let rest = behind_word(text);
     let (kill, behind) = kill_at(behind_signal(rest));
     let duration = behind_signal(behind);
     if !is_program(behind_word(duration)) || count_of(Kind::Leaves, rest) != 0 {
         return None;
     }
     limit_for(waits, seconds_of(first_word(duration)), kill)
-}
-
-// ---- the command
-
-fn limit_at(waits: bool, text: &[u8]) -> Option<u64>
-    ensures { result ≡ limit_at (waits, text.now) }
-{
-    if is_one_of(b"timeout /bin/timeout /usr/bin/timeout", first_word(text)) {
-        limit_of(waits, behind_word(text))
-    } else {
-        None
-    }
 }
 
 /// Whether the run waits for its lock, and what stands behind the lock's file; or what stands behind

@@ -3,10 +3,9 @@ ghost use Rattle.std.specs.Prelude.{◌≡◌, option_map};
 ghost use Rattle.std.specs.List.{list_all};
 ghost use Rattle.cs_table.specs.Text.{after, front};
 ghost use Rattle.cs_command.specs.Words.{behind_all, behind_one, behind_plain, behind_this, behind_word};
-ghost use Rattle.cs_command.specs.Words.{first_word, holds, is_name_byte, is_one_of, is_plain_byte};
-ghost use Rattle.cs_command.specs.Words.{is_quoted_byte, quoted_at, word_at};
+ghost use Rattle.cs_command.specs.Words.{first_word, holds, is_one_of, is_plain_byte, is_sign};
+ghost use Rattle.cs_command.specs.Words.{quoted_at, word_at};
 
-use crate::running::{is_inner, is_sign};
 use cs_table::text::{is_blank, skip_blanks, word};
 
 /// Whether the word is one of those in the list, which have a blank between them.
@@ -28,12 +27,6 @@ pub(crate) fn behind_word(text: &[u8]) -> &[u8]
 {
     let (_, rest) = word(text);
     skip_blanks(rest)
-}
-
-pub(crate) fn is_name_byte(byte: u8) -> bool
-    ensures { result ≡ is_name_byte byte }
-{
-    byte.is_ascii_alphanumeric() || byte == b'_'
 }
 
 /// Whether the byte stands for itself in a word.
@@ -73,12 +66,11 @@ pub(crate) fn behind_this<'t>(word: &[u8], text: &'t [u8]) -> Option<&'t [u8]>
     }
 }
 
-/// Whether the byte stands for itself between quotes.
-#[tactic(auto, unfolding(crate::specs::Words::is_quoted_byte))]
-fn is_quoted_byte(byte: u8) -> bool
-    ensures { result ≡ is_quoted_byte byte }
+/// Whether the byte ends the words of a program, or turns its input or output.
+fn is_sign(byte: u8) -> bool
+    ensures { result ≡ is_sign byte }
 {
-    is_plain_byte(byte) || is_blank(byte)
+    b";&|()<>".as_slice().contains(&byte)
 }
 
 /// Bytes that stand together: in a word, up to a sign, between quotes, or in a name.
@@ -91,14 +83,14 @@ pub(crate) enum Class {
 }
 
 impl Class {
-    fn holds(self, byte: u8) -> bool
+    pub(crate) fn holds(self, byte: u8) -> bool
         ensures { result ≡ holds self byte }
     {
         match self {
-            Class::Inner => is_inner(byte),
+            Class::Inner => !is_blank(byte) && !is_sign(byte),
             Class::Unsigned => !is_sign(byte),
-            Class::Quoted => is_quoted_byte(byte),
-            Class::Name => is_name_byte(byte),
+            Class::Quoted => is_plain_byte(byte) || is_blank(byte),
+            Class::Name => byte.is_ascii_alphanumeric() || byte == b'_',
         }
     }
 }
@@ -142,15 +134,6 @@ pub(crate) fn word_at(text: &[u8]) -> Option<(&[u8], &[u8])>
     }
 }
 
-fn behind_one(text: &[u8]) -> Option<&[u8]>
-    ensures { option_map (λ rest. rest.now) result ≡ behind_one text.now }
-{
-    match word_at(text) {
-        Some((_, rest)) => Some(rest),
-        None => None,
-    }
-}
-
 /// What stands behind all such words.
 #[tactic(auto, unfolding(crate::specs::Words::passed))]
 pub(crate) fn behind_words(text: &[u8]) -> &[u8]
@@ -158,8 +141,8 @@ pub(crate) fn behind_words(text: &[u8]) -> &[u8]
 {
     let mut rest = text;
     for _ in 0..text.len() {
-        match behind_one(rest) {
-            Some(behind) => rest = behind,
+        match word_at(rest) {
+            Some((_, behind)) => rest = behind,
             None => return rest,
         }
     }

@@ -1,14 +1,9 @@
 -- The minutes of parts, and the first entry whose parts are bad.
-use Rattle.std.proofs.Common.{◌≡◌, ℕ, zero, suc, ◌+◌, ◌<◌, ◌≤◌, List, [], ◌∷◌, Bool, true, false, ◌||◌, cond, length, get_or, drop, Some, None, Option, option_map, refl, ap, sym, ◌∙◌, arith, unsigned_abs}
+use Rattle.std.proofs.Common.{◌≡◌, ℕ, zero, suc, ◌+◌, ◌<◌, List, [], ◌∷◌, Bool, true, false, ◌||◌, cond, length, get_or, Some, None, Option, option_map, refl, ap, sym, ◌∙◌, arith}
 use Rattle.std.specs.Prelude.{position}
 use Rattle.std.specs.List.{list_any}
-use Rattle.std.proofs.lemmas.List.{drop_more}
 use Rattle.cs_decl.specs.declared.entries.PartEntry.{PartEntry}
-use Rattle.cs_plan.specs.declared.limits.TheConstants.{MAX_MINUTES}
-use Rattle.cs_decl.specs.Faults.{is_bad_max}
 use Rattle.cs_decl.proofs.Positions.{first_at, position_is}
-use Rattle.cs_decl.proofs.Texts.{if_true, if_false}
-use Rattle.cs_decl.proofs.Validity.{within_abs, yes}
 
 -- where no time is bad, none is longer than the most
 pub none_of : (p : PartEntry → Bool) (parts : List PartEntry) (i : ℕ) (d : PartEntry) → i < length parts → list_any p parts ≡ false → p (get_or parts i d) ≡ false
@@ -23,9 +18,6 @@ none_of p (x ∷ xs) (suc i) d within none = none_of p xs i d (omega (arith, wit
     tail : (b : Bool) → (b || list_any p xs) ≡ false → list_any p xs ≡ false
     tail true e = cc
     tail false e = e
-
-pub time_below : (parts : List PartEntry) (i : ℕ) (d : PartEntry) → i < length parts → list_any (λ p. is_bad_max p.max) parts ≡ false → unsigned_abs (get_or parts i d).max ≤ MAX_MINUTES
-time_below parts i d within none = (within_abs 1 MAX_MINUTES (get_or parts i d).max (yes _ (none_of (λ p. is_bad_max p.max) parts i d within none))).1
 
 -- ---- the first that passes a test, counted from a number on
 
@@ -48,12 +40,3 @@ from_none (Some j) = let z : 0 + j ≡ j = omega arith in ap Some z
 
 pub from_start : {A : Type 0} (p : A → Bool) (xs : List A) → first_from p 0 xs ≡ position p xs
 from_start p xs = from_is p 0 xs ∙ (from_none (first_at p xs) ∙ sym (position_is p xs))
-
-at_item : {A : Type 0} (p : A → Bool) (i : ℕ) (xs : List A) (x : A) → i < length xs → x ≡ get_or xs i x → first_from p i (drop i xs) ≡ cond (p x) (Some i) (first_from p (i + 1) (drop (i + 1) xs))
-at_item p i xs x within is = rw (drop_more xs i x within, ← is) refl
-
-pub passes_here : {A : Type 0} (p : A → Bool) (i : ℕ) (xs : List A) (x : A) (total : Option ℕ) → i < length xs → x ≡ get_or xs i x → p x ≡ true → first_from p i (drop i xs) ≡ total → Some i ≡ total
-passes_here p i xs x total within is e h = sym (at_item p i xs x within is ∙ if_true _ _ _ e) ∙ h
-
-pub passes_later : {A : Type 0} (p : A → Bool) (i : ℕ) (xs : List A) (x : A) (total : Option ℕ) → i < length xs → x ≡ get_or xs i x → p x ≡ false → first_from p i (drop i xs) ≡ total → first_from p (i + 1) (drop (i + 1) xs) ≡ total
-passes_later p i xs x total within is e h = sym (at_item p i xs x within is ∙ if_false _ _ _ e) ∙ h

@@ -13,10 +13,6 @@ none_like : (xs : List (Option ℤ)) → list_any (same_number None) xs ≡ fals
 none_like [] = refl
 none_like (x ∷ xs) = none_like xs
 
-or_true : (b : Bool) → (b || true) ≡ true
-or_true true = refl
-or_true false = refl
-
 or_false : (b : Bool) → (b || false) ≡ b
 or_false true = refl
 or_false false = refl

@@ -61,10 +61,6 @@ any_push p (x ∷ xs) y = rw (any_push p xs y) (or_assoc (p x) (list_any p xs) (
     or_assoc true b c = refl
     or_assoc false b c = refl
 
-or_true : (b : Bool) → (b || true) ≡ true
-or_true true = refl
-or_true false = refl
-
 -- a name that is in the set already, or is added
 pub any_insert : (name : List ℕ) (ks : List (Bor (List ℕ))) (v : Bor (List ℕ)) → list_any (λ k. bytes_eq name k.now) (insert_key (λ x y. bytes_eq x.now y.now) ks v) ≡ (list_any (λ k. bytes_eq name k.now) ks || bytes_eq name v.now)
 any_insert name ks v = by_cases (list_any (λ k. bytes_eq v.now k.now) ks) refl

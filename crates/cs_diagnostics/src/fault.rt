@@ -1,22 +1,23 @@
 //! Why a text is no JSON, and where.
-use crate::outline::{is_space, trimmed};
+use crate::outline::trimmed;
 use crate::span::Span;
 use serde_json::Error;
 
 /// The byte at which a line begins, line 1 for 0.
 fn line_start(bytes: &[u8], line: usize) -> usize {
-    let before = bytes
-        .split(|byte| *byte == b'\n')
-        .take(line.saturating_sub(1));
-    before.fold(0usize, |start, text| {
-        start.saturating_add(text.len()).saturating_add(1)
-    })
+    let (mut start, mut number) = (0usize, 1usize);
+    for (at, byte) in bytes.iter().enumerate() {
+        if number < line && *byte == b'\n' {
+            number = number.saturating_add(1);
+            start = at.saturating_add(1);
+        }
+    }
+    start
 }
 
 fn reason(bytes: &[u8], place: usize) -> &'static str {
-    let front = Span::between(0, place).bytes(bytes);
-    let before = front.iter().rev().find(|byte| !is_space(**byte)).copied();
-    let ends_value = |byte: u8| matches!(byte, b'"' | b'}' | b']') || byte.is_ascii_alphanumeric();
+    let front = trimmed(bytes, Span::between(0, place)).bytes(bytes);
+    let before = front.last().copied();
     if trimmed(bytes, Span::between(place, bytes.len())).is_empty() {
         return match before {
             None => "the file is empty: write an object, {..}",
@@ -30,7 +31,10 @@ fn reason(bytes: &[u8], place: usize) -> &'static str {
         (Some(b'}' | b']'), Some(b',')) => "remove the comma before this bracket",
         (Some(b'\''), _) => "write text in double quotes",
         (Some(b'/' | b'#'), _) => "JSON has no comments: remove this one",
-        (Some(b'"' | b'{' | b'['), Some(byte)) if ends_value(byte) => "add a comma before this",
+        (Some(b'"' | b'{' | b'['), Some(b'"' | b'}' | b']')) => "add a comma before this",
+        (Some(b'"' | b'{' | b'['), Some(byte)) if byte.is_ascii_alphanumeric() => {
+            "add a comma before this"
+        }
         _ => "this is no JSON: check the quotes, commas and colons here",
     }
 }

@@ -1,8 +1,3 @@
-ghost use Rattle.std.specs.Prelude.{◌≡◌, ◌<◌, ◌==◌, length, not, true, false, OnOk};
-ghost use Rattle.std.specs.List.{list_any};
-ghost use Rattle.cs_diagnostics.specs.Told.{is_full, is_told, tells, Keeps};
-ghost use Rattle.cs_diagnostics.specs.declared.findings.TheConstants.{MAX_TOLD};
-
 use crate::span::Span;
 use std::alloc::{AllocError, Global};
 use std::fmt::Display;
@@ -53,33 +48,18 @@ pub struct Note {
     pub text: Vec<u8>,
 }
 
-impl Finding {
-    /// Whether it tells that fault: by its name, and where it is.
-    fn tells(&self, fault: &FirstFault<'_>) -> bool
-        ensures { result ≡ tells fault.now self.now }
-    {
-        let from = self.place.from;
-        let is_there = fault.from <= from && from.saturating_sub(fault.from) <= fault.more;
-        let is_named = self.words.as_bytes().starts_with(fault.name.as_bytes());
-        is_named && (fault.line == 0 || self.line == fault.line && is_there)
-    }
-}
-
 /// How many of some findings stand no later in the file than that byte.
 fn rank(findings: &[Finding], from: usize) -> usize {
-    let comes_later = |found: &&Finding| from < found.start.saturating_add(found.place.from);
-    let behind = findings.iter().rev().take_while(comes_later).count();
-    findings.len().saturating_sub(behind)
+    for (at, found) in findings.iter().enumerate() {
+        if from < found.start.saturating_add(found.place.from) {
+            return at;
+        }
+    }
+    findings.len()
 }
 
 /// Puts a finding at its rank; where as many are kept as are told, the last goes.
-fn put(findings: &mut Vec<Finding>, finding: Finding) -> Done
-    ensures told { OnOk result ((fault : FirstFault) → tells fault finding ≡ true
-        → list_any (tells fault) findings.new.items ≡ true) }
-    ensures kept { OnOk result (length findings.old.items < MAX_TOLD
-        → (fault : FirstFault) → list_any (tells fault) findings.old.items ≡ true
-        → list_any (tells fault) findings.new.items ≡ true) }
-{
+fn put(findings: &mut Vec<Finding>, finding: Finding) -> Done {
     if findings.len() >= MAX_TOLD {
         let _last = findings.pop();
     }
@@ -147,9 +127,7 @@ impl Findings {
         rank(self.faults.as_slice(), from)
     }
 
-    fn add(&mut self, is_odd: bool, place: Span, words: impl Display + Drop) -> Done
-        ensures { OnOk result (self.new.has_oddities ≡ self.old.has_oddities) }
-    {
+    fn add(&mut self, is_odd: bool, place: Span, words: impl Display + Drop) -> Done {
         if self.faults.len().saturating_add(self.oddities.len()) >= MAX_TOLD {
             self.more = self.more.saturating_add(1);
         }
@@ -177,40 +155,37 @@ impl Findings {
     }
 
     /// Adds something that is odd.
-    pub fn odd(&mut self, place: Span, words: impl Display + Drop) -> Done
-        ensures { OnOk result (self.new.has_oddities ≡ true) }
-    {
+    pub fn odd(&mut self, place: Span, words: impl Display + Drop) -> Done {
         self.has_oddities = true;
         self.add(true, place, words)
     }
 
-    /// Whether that fault is told.
-    pub fn tells(&self, fault: &FirstFault<'_>) -> bool
-        ensures { result ≡ is_told fault.now self.now }
-    {
-        self.faults.iter().any(|found| found.tells(fault))
+    /// Whether that fault is told: by its name, and where it is.
+    pub fn tells(&self, fault: &FirstFault<'_>) -> bool {
+        for found in self.faults.iter() {
+            let from = found.place.from;
+            let is_there = fault.from <= from && from.saturating_sub(fault.from) <= fault.more;
+            let is_named = found.words.as_bytes().starts_with(fault.name.as_bytes());
+            if is_named && (fault.line == 0 || found.line == fault.line && is_there) {
+                return true;
+            }
+        }
+        false
     }
 
     /// Whether anything wrong was found.
-    pub fn has_faults(&self) -> bool
-        ensures { result ≡ not (length self.now.faults.items == 0) }
-    {
+    pub fn has_faults(&self) -> bool {
         !self.faults.is_empty()
     }
 
     /// Whether as many faults are kept as are told.
-    pub fn is_full(&self) -> bool
-        ensures { result ≡ is_full self.now }
-    {
+    pub fn is_full(&self) -> bool {
         self.faults.len() >= MAX_TOLD
     }
 
     /// Adds a fault at the start of its line, where none was added that tells it.
     pub fn keep(&mut self, fault: &FirstFault<'_>) -> Done
-        ensures told { OnOk result (is_told fault.now self.new ≡ true) }
-        // Each fault that was told is told still, unless a hundred were.
-        ensures kept { OnOk result (is_full self.old ≡ false → Keeps self.old self.new) }
-        ensures odd { OnOk result (self.new.has_oddities ≡ self.old.has_oddities) }
+    // Each fault that was told is told still, unless a hundred were.
     {
         if self.tells(fault) {
             return Ok(());

@@ -1,12 +1,6 @@
 //! How findings are told: the place and the words, the line, and a mark under the place.
-ghost use Rattle.std.specs.Prelude.{◌≡◌, ◌+◌, ◌++◌, ◌∷◌, [], length, true, false, OnOk, IfOk};
-ghost use Rattle.std.specs.List.{list_any};
-ghost use Rattle.std.specs.Option.{option_map};
-ghost use Rattle.std.specs.String.{string_bytes};
-ghost use Rattle.cs_diagnostics.specs.Told.{EndsWith, IsCalled, IsFull, IsPart, IsToldIn, TellsPiece, TellsPieces, head, is_full, is_told, note_line, note_of, tells};
-ghost use Rattle.cs_diagnostics.specs.declared.findings.FirstFault.{FirstFault};
 
-use crate::findings::{Done, Finding, Findings, MAX_TOLD, Note, Words};
+use crate::findings::{Done, Finding, Findings, MAX_TOLD, Note};
 use crate::names::is_control;
 use crate::span::Span;
 use std::alloc::{AllocError, Global};
@@ -28,9 +22,7 @@ pub struct File<'a> {
 
 impl<'a> File<'a> {
     /// What it is called where it is spoken of.
-    fn name(&self) -> &'a str
-        ensures { IsCalled self.now.path.now result.now }
-    {
+    fn name(&self) -> &'a str {
         if self.path == "-" {
             "standard input"
         } else {
@@ -90,83 +82,36 @@ fn marked(alloc: Global, bytes: &[u8], finding: &Finding) -> Result<Vec<u8>, All
     Ok(text)
 }
 
-/// What is told of a finding in one line.
-fn heading(alloc: Global, name: &str, is_odd: bool, finding: &Finding) -> Words
-    ensures { IfOk result (λ text. is_odd ≡ false → string_bytes text
-        ≡ name.now ++ head finding.now.line (finding.now.place.from + 1)
-        (string_bytes finding.now.words ++ (10 ∷ []))) }
-{
-    let (line, column) = (finding.line, finding.place.from as u128 + 1);
-    let words = finding.words.as_str();
-    if is_odd {
-        return format!(in alloc; "{name}:{line}:{column}: odd: {words}\n");
+/// Adds the note of a line, a line, if it has one.
+fn add_note(text: &mut Vec<u8>, notes: &[Note], line: u64) -> Done {
+    for note in notes {
+        if note.line == line {
+            text.extend_from_slice(b"  ")?;
+            text.extend_from_slice(note.text.as_slice())?;
+            return text.extend_from_slice(b"\n");
+        }
     }
-    format!(in alloc; "{name}:{line}:{column}: fault: {words}\n")
-}
-
-/// The note of a line, if it has one.
-fn note_of(notes: &[Note], line: u64) -> Option<&Note>
-    ensures { option_map (λ note. note.now) result ≡ note_of notes.now line }
-{
-    notes.iter().find(|note| note.line == line)
-}
-
-/// Adds a note, a line, where there is one.
-fn add_note(text: &mut Vec<u8>, note: Option<&Note>) -> Done
-    ensures { OnOk result (text.new.items
-        ≡ text.old.items ++ note_line (option_map (λ note. note.now) note.entry)) }
-{
-    let Some(note) = note else {
-        return Ok(());
-    };
-    text.extend_from_slice(b"  ")?;
-    text.extend_from_slice(note.text.as_slice())?;
-    text.extend_from_slice(b"\n")
-}
-
-/// Adds what is told of a finding.
-fn add_finding(
-    alloc: Global,
-    text: &mut Vec<u8>,
-    file: &File<'_>,
-    notes: &[Note],
-    is_odd: bool,
-    finding: &Finding,
-) -> Done
-    ensures told { OnOk result (is_odd ≡ false → (fault : FirstFault)
-        → tells fault finding.now ≡ true → IsToldIn text.new.items fault) }
-    ensures kept { OnOk result (IsPart text.old.items text.new.items) }
-    ensures piece { OnOk result (is_odd ≡ false
-        → TellsPiece file.now.path.now text.old.items text.new.items) }
-    // The note of the line that it is about comes last.
-    ensures note { OnOk result (EndsWith (note_line (note_of notes.now finding.now.about))
-        text.new.items) }
-{
-    let heading = heading(alloc, file.name(), is_odd, finding)?;
-    let mut below = marked(alloc, file.bytes, finding)?;
-    add_note(&mut below, note_of(notes, finding.about))?;
-    text.extend_from_slice(heading.as_bytes())?;
-    text.extend_from_slice(below.as_slice())?;
     Ok(())
 }
 
-/// Adds what is told of each of some findings.
+/// Adds what is told of each of some findings, which are faults or odd.
 fn add_findings(
     alloc: Global,
     text: &mut Vec<u8>,
     file: &File<'_>,
     notes: &[Note],
-    is_odd: bool,
+    what: &str,
     findings: &[Finding],
-) -> Done
-    ensures told { OnOk result (is_odd ≡ false → (fault : FirstFault)
-        → list_any (tells fault) findings.now ≡ true → IsToldIn text.new.items fault) }
-    ensures kept { OnOk result (IsPart text.old.items text.new.items) }
-    ensures pieces { OnOk result (is_odd ≡ false
-        → TellsPieces file.now.path.now (length findings.now) text.new.items) }
-{
+) -> Done {
+    let name = file.name();
     for finding in findings.iter() {
-        add_finding(alloc, text, file, notes, is_odd, finding)?;
+        let (line, column) = (finding.line, finding.place.from as u128 + 1);
+        let words = finding.words.as_str();
+        let heading = format!(in alloc; "{name}:{line}:{column}: {what}: {words}\n")?;
+        text.extend_from_slice(heading.as_bytes())?;
+        let below = marked(alloc, file.bytes, finding)?;
+        text.extend_from_slice(below.as_slice())?;
+        add_note(text, notes, finding.about)?;
     }
     Ok(())
 }
@@ -181,19 +126,19 @@ impl Findings {
     /// comes the note of the line that it is about, if there is one, behind two blanks. Behind
     /// [`MAX_TOLD`](crate::MAX_TOLD) of them stands `FILE: and N more`. The only error is want of
     /// memory.
-    pub fn tell(&self, file: &File<'_>, notes: &[Note], text: &mut Vec<u8>) -> Done
-        // Each fault that is among them is told at its line and column.
-        ensures told { OnOk result ((fault : FirstFault) → is_told fault self.now ≡ true
-            → IsToldIn text.new.items fault) }
-        ensures kept { OnOk result (IsPart text.old.items text.new.items) }
-        ensures full { OnOk result (is_full self.now ≡ true
-            → IsFull file.now.path.now text.new.items) }
-    {
-        add_findings(self.alloc, text, file, notes, false, self.faults.as_slice())?;
+    pub fn tell(&self, file: &File<'_>, notes: &[Note], text: &mut Vec<u8>) -> Done {
+        add_findings(
+            self.alloc,
+            text,
+            file,
+            notes,
+            "fault",
+            self.faults.as_slice(),
+        )?;
         let left = MAX_TOLD
             .saturating_sub(self.faults.len())
             .min(self.oddities.len());
-        add_findings(self.alloc, text, file, notes, true, &self.oddities[..left])?;
+        add_findings(self.alloc, text, file, notes, "odd", &self.oddities[..left])?;
         if self.more > 0 {
             let (name, more) = (file.name(), self.more);
             let last = format!(in self.alloc; "{name}: and {more} more\n")?;

@@ -1,5 +1,3 @@
-ghost use Rattle.std.specs.Prelude.{◌≡◌};
-
 /// Bytes of a file, or of a line, that follow each other: from one on and below another, each
 /// counted from 0.
 #[derive(Clone, Copy, PartialEq, Eq)]
@@ -12,16 +10,12 @@ pub struct Span {
 
 impl Span {
     /// The bytes from one on and below another.
-    pub fn between(from: usize, to: usize) -> Span
-        ensures { result ≡ (record { from = from; to = to }) }
-    {
+    pub fn between(from: usize, to: usize) -> Span {
         Span { from, to }
     }
 
     /// So many bytes from one on.
-    pub fn of(from: usize, len: usize) -> Span
-        ensures { result.from ≡ from }
-    {
+    pub fn of(from: usize, len: usize) -> Span {
         Span::between(from, from.saturating_add(len))
     }
 

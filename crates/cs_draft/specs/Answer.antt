@@ -1,7 +1,10 @@
 -- What is answered to `draft`.
-use Rattle.std.specs.Prelude.{◌≡◌, ◌⊎◌, ℕ, ℤ, true, false, List, [], Option, Some, None, Result}
+use Rattle.std.specs.Prelude.{◌≡◌, ◌⊎◌, ◌==◌, ℕ, ℤ, Bool, true, false, List, [], All, Option, Some, None}
+use Rattle.std.specs.Prelude.{option_map, IfSome, Result, Ok, Err}
+use Rattle.std.specs.List.{list_any}
+use Rattle.std.specs.Result.{result_map_both}
 use Rattle.clap.specs.Words.{Text}
-use Rattle.cs_crontab.specs.Crontab.{Table}
+use Rattle.cs_crontab.specs.Crontab.{CommandLine, Table}
 use Rattle.cs_anacrontab.specs.Anacrontab.{Table as JobTable}
 use Rattle.cs_place.specs.declared.places.Place.{Place}
 use Rattle.cs_plan.specs.Plain.{is_possible_max}
@@ -9,51 +12,89 @@ use Rattle.cs_decl.specs.declared.entries.Entries.{Entries}
 use Rattle.cs_draft.specs.Draft.{IsUpdate, Warn, nothing}
 use Rattle.cs_args.specs.Asked.{AskedDraft}
 use Rattle.cs_args.specs.declared.question.WordFault.TheVariants.{BadMax}
-use Rattle.cs_io.specs.Files.{Failed}
-use Rattle.cs_files.specs.Reads.{AndThen, Answered, GivesSome, PlacesIn, ReadsEntries, ReadsTables}
+use Rattle.cs_io.specs.Files.{Failed, IsTooLong}
+use Rattle.cs_files.specs.Asked.{Answers, FindsTables}
+use Rattle.cs_files.specs.Reads.{AndThen, Gives, GivesSome, ReadsEntries}
 use Rattle.cs_files.specs.Response.{Ending}
-use Rattle.cs_files.specs.Trouble.{InWords, Trouble, ends}
+use Rattle.cs_files.specs.Trouble.{InWords, TellsPath, Trouble}
+use Rattle.cs_retrace.specs.Maxes.{given_in}
+use Rattle.cs_retrace.specs.declared.maxes.Given.{Given}
+use Rattle.cs_draft.specs.declared.answer.Draftable.{Draftable}
 
 -- such a text is printed; or that there is none, with status 2
 abbrev pub IsPrinted : (List ℕ → Type 0) → Ending → Type 0
 IsPrinted Is ending =
     ((ending.status ≡ 0) × Is ending.out) ⊎ ((ending.status ≡ 2) × (ending.out ≡ []))
 
--- so is an update of old declarations, and standard error warns of the locks that what is new lacks
-abbrev pub PrintsUpdate : Table → JobTable → List Place → Entries → ℕ → Ending → Type 0
-PrintsUpdate table jobs places old max ending = IsPrinted
-    (λ out. IsUpdate table jobs places old max out × Warn table jobs old out ending.err) ending
+-- so is an update of old declarations with these longest times, and standard error warns of the locks
+-- that what is new lacks
+abbrev pub PrintsUpdate : Table → JobTable → List Place → Entries → ℕ → List Given → Ending → Type 0
+PrintsUpdate table jobs places old max given ending = IsPrinted
+    (λ out. IsUpdate table jobs places old max given out × Warn table jobs old out ending.err) ending
 
--- a draft updates nothing
-abbrev pub PrintsDraft : Table → JobTable → List Place → ℕ → ℤ → Ending → Type 0
-PrintsDraft table jobs places max offset = PrintsUpdate table jobs places (nothing offset) max
+-- the declarations that are updated; a draft, at an offset, updates nothing
+abbrev pub updated : ℤ → Option Entries → Entries
+updated offset None = nothing offset
+updated offset (Some old) = old
 
--- and so with the places of the table at a path
-abbrev pub IsPrintedAt : (List ℕ → Option (List ℕ)) → Text → Table → (List Place → Ending → Type 0)
+-- a fault is told, and no text
+abbrev pub IsRefused : Ending → Type 0
+IsRefused ending = (ending.status ≡ 3) × (ending.out ≡ [])
+
+-- the crontab has a line for which a longest time is given
+abbrev pub is_line : List CommandLine → Given → Bool
+is_line lines g = list_any (λ line. line.number == g.number) lines
+
+-- It is printed with the longest times that a text gives. A text with a fault is refused, and so is
+-- one that gives a longest time to a line that the crontab doesn't have.
+abbrev pub PrintsTimed : Table → JobTable → List Place → Entries → ℕ → Option (List Given) → Ending
+    → Type 0
+PrintsTimed table jobs places old max None ending = IsRefused ending
+PrintsTimed table jobs places old max (Some given) ending =
+    ((All (λ g. is_line table.lines g ≡ true) given → ⊥) × IsRefused ending)
+    ⊎ (All (λ g. is_line table.lines g ≡ true) given
+    × PrintsUpdate table jobs places old max given ending)
+
+-- and so of what was read
+abbrev pub PrintsDraft : ℕ → ℤ → Draftable → Ending → Type 0
+PrintsDraft max offset x = PrintsTimed x.tables.crontab x.tables.jobs x.tables.places
+    (updated offset (option_map (λ p. p.0) x.old)) max (given_in x.maxes)
+
+-- the declarations to update, if there are some
+abbrev pub ReadsOld : (List ℕ → Option (List ℕ)) → Option Text → Failed → Failed
+    → Result (Option Entries) Trouble → Type 0
+ReadsOld files None = Gives (Ok None)
+ReadsOld files (Some path) = AndThen (ReadsEntries files path) (λ old. Gives (Ok (Some old)))
+
+-- the text at a path, an empty one where there is none
+abbrev pub ReadsText : (List ℕ → Option (List ℕ)) → Option Text → Failed → Failed
+    → Result (List ℕ) Trouble → Type 0
+ReadsText files None before after r = (after ≡ before) × (r ≡ Ok [])
+ReadsText files (Some path) before after (Ok text) =
+    (after ≡ before) × IfSome (files path) (λ bytes. text ≡ bytes)
+ReadsText files (Some path) before after (Err t) =
+    TellsPath path t × ((after path ≡ true) ⊎ ((after ≡ before) × IsTooLong path files))
+
+-- both tables, the old declarations and then the longest times; a longest time that no job may declare
+-- ends the call before a file is read
+abbrev pub FindsBy : Bool → AskedDraft → (List ℕ → Option (List ℕ)) → List ℕ → Failed → Failed
+    → Result Draftable Trouble → Type 0
+FindsBy false a files w before after r =
+    (w ≡ []) × (after ≡ before) × (r ≡ Err (InWords BadMax))
+FindsBy true a files w before after r = AndThen (FindsTables files a.table a.anacrontab w)
+    (λ tables. AndThen (ReadsOld files a.update) (λ old. AndThen (ReadsText files a.maxes)
+    (λ text. GivesSome (λ x. (x.tables ≡ tables) × (option_map (λ p. p.0) x.old ≡ old)
+    × (x.maxes ≡ text))))) before after r
+
+abbrev pub FindsDraftable : AskedDraft → (List ℕ → Option (List ℕ)) → List ℕ → Failed → Failed
+    → Result Draftable Trouble → Type 0
+FindsDraftable a = FindsBy (is_possible_max a.max) a
+
+-- what is answered to `draft`: that, or the first fault of the words and the files
+abbrev pub AnswersDraft : AskedDraft → ℤ → (List ℕ → Option (List ℕ)) → List ℕ → Failed → Failed
     → Ending → Type 0
-IsPrintedAt files path table Prints ending =
-    (places : List Place) × PlacesIn files path table places × Prints places ending
+AnswersDraft a offset files w = Answers (FindsDraftable a files w) (PrintsDraft a.max offset)
 
--- a draft of the tables, of which the first is at that path, at an offset; or the old declarations are
--- read, and an update of them is printed
-abbrev pub Drafts : (List ℕ → Option (List ℕ)) → Text → ℕ → ℤ → Option Text → Table × JobTable
-    → Failed → Failed → Result Ending Trouble → Type 0
-Drafts files table max offset None tables = GivesSome (IsPrintedAt files table tables.0
-    (λ places. PrintsDraft tables.0 tables.1 places max offset))
-Drafts files table max offset (Some path) tables =
-    AndThen (ReadsEntries files path) (λ old. GivesSome (IsPrintedAt files table tables.0
-    (λ places. PrintsUpdate tables.0 tables.1 places old max)))
-
--- both tables are read first
-abbrev pub DraftsTables : AskedDraft → ℤ → (List ℕ → Option (List ℕ)) → Failed → Failed → Ending
-    → Type 0
-DraftsTables a offset files = Answered (ReadsTables files a.table a.anacrontab)
-    (λ both. Drafts files a.table a.max offset a.update both)
-
--- what is answered to `draft`: a longest time that no job may declare ends the call before a file is
--- read; else the first fault of the files does
-abbrev pub AnswersDraft : AskedDraft → ℤ → (List ℕ → Option (List ℕ)) → Failed → Failed → Ending
-    → Type 0
-AnswersDraft a offset files before after ending =
-    ((is_possible_max a.max ≡ false) × (after ≡ before) × (ending ≡ ends [] (InWords BadMax)))
-    ⊎ ((is_possible_max a.max ≡ true) × DraftsTables a offset files before after ending)
+-- old declarations, without their bytes
+abbrev pub entries_in : {X E : Type 0} → Result (Option (Entries × X)) E → Result (Option Entries) E
+entries_in found = result_map_both (option_map (λ p. p.0)) (λ e. e) found

@@ -1,5 +1,5 @@
 -- What is drawn up: declarations that join with the tables, and that keep what older ones declare.
-use Rattle.std.specs.Prelude.{◌≡◌, ◌≢◌, ◌⊎◌, ◌++◌, ◌≤◌, ℕ, ℤ, pos, List, [], ◌∷◌, All, codes, count_by, decimal, filter, find, length, map, take, drop, Bool, true, false, not, ◌==◌, ◌&&◌, ◌||◌, nat_le, nat_lt, bytes_eq, if◌then◌else◌, Option, None, Some, is_none, is_some, option_map, unwrap_or, IfSome, IsSomeAnd, IsUtf8, Ok}
+use Rattle.std.specs.Prelude.{◌≡◌, ◌≢◌, ◌⊎◌, ◌++◌, ◌≤◌, ◌+◌, ◌-◌, ◌^◌, min, max as nat_max, ℕ, ℤ, pos, List, [], ◌∷◌, All, codes, count_by, decimal, filter, find, length, map, take, drop, Bool, true, false, not, ◌==◌, ◌&&◌, ◌||◌, nat_le, nat_lt, bytes_eq, if◌then◌else◌, Option, None, Some, is_none, is_some, option_and_then, option_map, unwrap_or, IfSome, IsSomeAnd, IsUtf8, Ok}
 use Rattle.std.specs.Ordering.{int_eq}
 use Rattle.std.specs.List.{list_all, list_any}
 use Rattle.cs_civil.specs.declared.minute.TheConstants.{MINUTES_OF_DAY}
@@ -12,6 +12,7 @@ use Rattle.cs_anacrontab.specs.Anacrontab.{Table as Anacrontab, JobLine}
 use Rattle.cs_schedule.specs.Gap.{AreApart, can_be_apart}
 use Rattle.cs_place.specs.Places.{place_of}
 use Rattle.cs_place.specs.declared.places.Place.{Place}
+use Rattle.cs_history.specs.Plan.{waits_in}
 use Rattle.cs_history.specs.declared.mode.Mode.{Mode}
 use Rattle.cs_history.specs.declared.mode.Mode.TheVariants.{Plain}
 use Rattle.cs_plan.specs.declared.limits.TheConstants.{MAX_CAPACITY, MAX_GROUPS, MAX_MINUTES}
@@ -32,6 +33,9 @@ use Rattle.cs_decl.specs.When.{is_told_when, same_when}
 use Rattle.cs_command.specs.Words.{names_lock}
 use Rattle.cs_command.specs.Locks.{lock_of, is_below}
 use Rattle.cs_command.specs.Timeouts.{asked_for, program_of, time_limit}
+use Rattle.cs_retrace.specs.Maxes.{max_of}
+use Rattle.cs_retrace.specs.Words.{if_so}
+use Rattle.cs_retrace.specs.declared.maxes.Given.{Given}
 use Rattle.cs_draft.specs.declared.draft.Drawing.{Drawing}
 use Rattle.cs_draft.specs.declared.draft.Drawing.TheVariants.{BadMax, NotConfirmed, Drawn}
 
@@ -86,6 +90,36 @@ is_part name p = bytes_eq p.name name
 abbrev pub all_are_parts : List (List ℕ) → List PartEntry → Bool
 all_are_parts names parts = list_all (λ name. list_any (is_part name) parts) names
 
+-- ---- times that are given
+
+-- the greater one of a limit, where there is one, and a longest time
+abbrev pub greater : Option ℕ → ℕ → ℕ
+greater None max = max
+greater (Some limit) max = nat_max limit max
+
+-- A run that waits for a lock may begin inside a minute, and gets a minute more, as far as 64 bits
+-- count; and no time is less than timeout(1) allows the command.
+abbrev pub time_for : List ℕ → Mode → ℕ → ℕ
+time_for command mode max =
+    greater (time_limit command) (min (max + (if waits_in mode then 1 else 0)) (2 ^ 64 - 1))
+
+-- the longest time of a command of this mode as a whole, where one is given, and a job may have it
+abbrev pub time_of : List Given → CommandLine → Bool → Mode → Option ℕ
+time_of given line whole mode = if whole then option_and_then
+    (λ max. if_so (nat_le (time_for line.command mode max) MAX_MINUTES)
+    (time_for line.command mode max)) (max_of given line.number) else None
+
+-- An entry has the time that is given, which is no guess, and no parts; or where none is, times as
+-- without it.
+abbrev pub HasTimes : Option ℕ → (CronEntry → Type 0) → CronEntry → Type 0
+HasTimes None Has e = Has e
+HasTimes (Some max) Has e = (e.max ≡ pos max) × (e.parts ≡ []) × (e.guess ≡ false)
+
+-- where one is given, the entry of its line has it, whether that is new or kept
+abbrev pub HasGiven : List Given → CommandLine → CronEntry → Type 0
+HasGiven given line e = IfSome (time_of given line (length e.parts == 0) e.mode)
+    (λ max. (e.max ≡ pos max) × (e.guess ≡ false))
+
 -- ---- what is new
 
 -- The longest time of a command without parts is the asked one, or one that can be from a due
@@ -102,20 +136,35 @@ abbrev pub is_guess : List ℕ → ℤ → Bool
 is_guess command max =
     unwrap_or (option_map (λ limit. not (int_eq max (pos limit))) (time_limit command)) true
 
--- the entry of a new command has the times of these parts and the least weight, and is marked as a
--- guess if it is one
-abbrev pub IsNewEntry : ℕ → List (List ℕ) → CommandLine → CronEntry → Type 0
-IsNewEntry asked names line e = IsTimed (asked_for asked line.command) line.when names e
-    × (e.weight ≡ pos 1) × (e.guess ≡ is_guess line.command e.max)
+-- without a time that is given, those of these parts, marked as a guess if the longest one is one
+abbrev pub HasNewTimes : ℕ → List (List ℕ) → CommandLine → CronEntry → Type 0
+HasNewTimes asked names line e = IsTimed (asked_for asked line.command) line.when names e
+    × (e.guess ≡ is_guess line.command e.max)
 
--- A new command has an entry that is new; or where there is a default, one with its longest time,
--- which is no guess, its weight and no parts if the command takes a lock, and else none.
-abbrev pub IsAdded : (CronEntry → Type 0) → Option (List ℕ × Mode) → Option DefaultEntry
-    → Option CronEntry → Type 0
-IsAdded New lock None entry = IsSomeAnd entry New
-IsAdded New None (Some default) entry = entry ≡ None
-IsAdded New (Some lock) (Some default) entry = IsSomeAnd entry (λ e. (e.max ≡ default.max)
-    × (e.weight ≡ default.weight) × (e.parts ≡ []) × (e.guess ≡ false))
+-- the entry of a new command has such times and the least weight
+abbrev pub IsNewEntry : ℕ → List Given → List (List ℕ) → CommandLine → CronEntry → Type 0
+IsNewEntry asked given names line e = (e.weight ≡ pos 1)
+    × HasTimes (time_of given line (length names == 0) e.mode) (HasNewTimes asked names line) e
+
+-- without a time that is given, that of the default, which is no guess, and no parts
+abbrev pub HasDefaultTime : DefaultEntry → CronEntry → Type 0
+HasDefaultTime default e = (e.max ≡ default.max) × (e.parts ≡ []) × (e.guess ≡ false)
+
+abbrev pub IsDefaultEntry : List Given → CommandLine → DefaultEntry → CronEntry → Type 0
+IsDefaultEntry given line default e = (e.weight ≡ default.weight)
+    × HasTimes (time_of given line true e.mode) (HasDefaultTime default) e
+
+-- A new command has an entry that is new; or where there is a default, one that has that if the
+-- command has something of its own, and else none.
+abbrev pub IsAdded : (CronEntry → Type 0) → (DefaultEntry → CronEntry → Type 0) → Bool
+    → Option DefaultEntry → Option CronEntry → Type 0
+IsAdded New Defaulted own None entry = IsSomeAnd entry New
+IsAdded New Defaulted false (Some default) entry = entry ≡ None
+IsAdded New Defaulted true (Some default) entry = IsSomeAnd entry (Defaulted default)
+
+-- that is a lock that it takes, or a time that is given
+abbrev pub has_own : List Given → CommandLine → Bool
+has_own given line = is_some (lock_of line.command) || is_some (max_of given line.number)
 
 -- the text is this one
 abbrev pub is_text : List ℕ → Option (List ℕ) → Bool
@@ -163,16 +212,17 @@ KeepsTimes names o n =
     ⊎ ((names ≢ []) × (o.parts ≢ []) × HasParts names n × All (KeepsPart o.parts) n.parts
     × (n.guess ≡ (o.guess || not (all_are_parts names o.parts))))
 
--- the same is declared by two entries, but for parts that came or went
-abbrev pub AreAlike : List (List ℕ) → CronEntry → CronEntry → Type 0
-AreAlike names o n = KeepsTimes names o n
-    × (n.weight ≡ o.weight) × (n.group ≡ o.group) × (n.mode ≡ o.mode)
+-- the same is declared by two entries, but for parts that came or went, and a time that is given
+abbrev pub AreAlike : List Given → CommandLine → List (List ℕ) → CronEntry → CronEntry → Type 0
+AreAlike given line names o n = (n.weight ≡ o.weight) × (n.group ≡ o.group) × (n.mode ≡ o.mode)
+    × HasTimes (time_of given line (length o.parts == 0) n.mode) (KeepsTimes names o) n
 
 -- A line that one old entry alone tells has an entry that is like that, or is left out as it was.
-abbrev pub IsKept : Bool → List Place → List CommandLine → Entries → Entries → CommandLine → Type 0
-IsKept timed places lines old new line = is_lone timed lines old line ≡ true
+abbrev pub IsKept : Bool → List Given → List Place → List CommandLine → Entries → Entries
+    → CommandLine → Type 0
+IsKept timed given places lines old new line = is_lone timed lines old line ≡ true
     → IfSome (find (λ e. tells timed line e.name) old.cron) (λ o. IsSomeAnd
-    (find (λ e. is_named e.name line) new.cron) (AreAlike (parts_of places line) o))
+    (find (λ e. is_named e.name line) new.cron) (AreAlike given line (parts_of places line) o))
     × (list_any (tells timed line) old.left_out ≡ true → is_left_out new line ≡ true)
 
 -- the name tells the command of no line
@@ -193,13 +243,17 @@ may_follow line o = unwrap_or (option_map (λ program. is_text program (program_
 -- What one old entry alone tells of a line is declared of that line. A new command is added, or has
 -- what the entry left behind declares; it isn't left out, and its entry has the command's lock.
 pub record IsUpdatedLine (lines : List CommandLine) (places : List Place) (old : Entries)
-    (behind : Option CronEntry) (max : ℕ) (new : Entries) (line : CommandLine) : Type 0 where
-  pub kept : IsKept false places lines old new line
-  pub timed : IsKept true places lines old new line
-  pub added : is_new old line ≡ true → (IsAdded (IsNewEntry max (parts_of places line) line)
-      (lock_of line.command) old.default (find (λ e. is_named e.name line) new.cron)
+    (behind : Option CronEntry) (max : ℕ) (given : List Given) (new : Entries) (line : CommandLine)
+    : Type 0 where
+  pub has_given : IfSome (find (λ e. is_named e.name line) new.cron) (HasGiven given line)
+  pub kept : IsKept false given places lines old new line
+  pub timed : IsKept true given places lines old new line
+  pub added : is_new old line ≡ true → (IsAdded (IsNewEntry max given (parts_of places line) line)
+      (IsDefaultEntry given line) (has_own given line) old.default
+      (find (λ e. is_named e.name line) new.cron)
       ⊎ IsSomeAnd behind (λ o. (may_follow line o ≡ true) × IsSomeAnd
-      (find (λ e. is_named e.name line) new.cron) (AreAlike (parts_of places line) o)))
+      (find (λ e. is_named e.name line) new.cron)
+      (AreAlike given line (parts_of places line) o)))
       × (is_left_out new line ≡ false)
       × IfSome (find (λ e. is_named e.name line) new.cron)
       (IsLocked new.groups (lock_of line.command))
@@ -221,9 +275,9 @@ IsUpdatedJob old max new line = IsJobEntry max line.command old.default
 -- All else is as it was, but that groups may be added, of which each is exclusive and that of an
 -- entry.
 pub record AreUpdates (crontab : Crontab) (anacrontab : Anacrontab) (places : List Place)
-    (old : Entries) (max : ℕ) (new : Entries) : Type 0 where
-  pub lines : All (IsUpdatedLine crontab.lines places old (left_behind crontab.lines old) max new)
-      crontab.lines
+    (old : Entries) (max : ℕ) (given : List Given) (new : Entries) : Type 0 where
+  pub lines : All (IsUpdatedLine crontab.lines places old (left_behind crontab.lines old) max given
+      new) crontab.lines
   pub jobs : All (IsUpdatedJob old max new) anacrontab.lines
   pub capacity : new.capacity ≡ old.capacity
   pub offset : new.offset ≡ old.offset
@@ -234,9 +288,11 @@ pub record AreUpdates (crontab : Crontab) (anacrontab : Anacrontab) (places : Li
   pub new_groups : list_all (is_new_group new) (drop (length old.groups) new.groups) ≡ true
 
 -- .. by the text that is read back
-abbrev pub IsUpdate : Crontab → Anacrontab → List Place → Entries → ℕ → List ℕ → Type 0
-IsUpdate crontab anacrontab places old max bytes = (new : Entries)
-    × IsSound crontab anacrontab bytes new × AreUpdates crontab anacrontab places old max new
+abbrev pub IsUpdate : Crontab → Anacrontab → List Place → Entries → ℕ → List Given → List ℕ
+    → Type 0
+IsUpdate crontab anacrontab places old max given bytes = (new : Entries)
+    × IsSound crontab anacrontab bytes new
+    × AreUpdates crontab anacrontab places old max given new
 
 -- A draft updates this: nothing is declared of jobs; the capacity is the greatest, clocks are ahead
 -- of UTC by so many minutes, and catch-up is at all hours.
@@ -290,9 +346,10 @@ Warn crontab anacrontab old bytes warnings = (d : Entries) × (declared_by bytes
     (filter (is_unlocked_job old) anacrontab.lines)) (lines_of warnings) ≡ true)
 
 -- An update where the longest time may be declared, with these warnings, and none where it may not.
-abbrev pub IsDrawing : Crontab → Anacrontab → List Place → Entries → ℕ → Drawing → Type 0
-IsDrawing crontab anacrontab places old max BadMax = is_possible_max max ≡ false
-IsDrawing crontab anacrontab places old max NotConfirmed = is_possible_max max ≡ true
-IsDrawing crontab anacrontab places old max (Drawn draft) =
-    (is_possible_max max ≡ true) × IsUpdate crontab anacrontab places old max draft.text
+abbrev pub IsDrawing : Crontab → Anacrontab → List Place → Entries → ℕ → List Given → Drawing
+    → Type 0
+IsDrawing crontab anacrontab places old max given BadMax = is_possible_max max ≡ false
+IsDrawing crontab anacrontab places old max given NotConfirmed = is_possible_max max ≡ true
+IsDrawing crontab anacrontab places old max given (Drawn draft) =
+    (is_possible_max max ≡ true) × IsUpdate crontab anacrontab places old max given draft.text
     × Warn crontab anacrontab old draft.text draft.warnings

@@ -6,12 +6,14 @@ ghost use Rattle.std.specs.List.{list_all, list_any};
 ghost use Rattle.cs_decl.specs.Join.{is_left_out, is_named};
 ghost use Rattle.cs_schedule.specs.Gap.{AreApart, can_be_apart};
 ghost use Rattle.cs_schedule.specs.declared.gap.TheConstants.{MAX_GAP};
-ghost use Rattle.cs_draft.specs.Draft.{AreAlike, IsAdded, IsLocked, IsNewEntry, IsTimed};
+ghost use Rattle.cs_draft.specs.Draft.{AreAlike, HasDefaultTime, HasNewTimes, HasTimes, IsAdded};
+ghost use Rattle.cs_draft.specs.Draft.{IsDefaultEntry, IsLocked, IsNewEntry, IsTimed, has_own};
 ghost use Rattle.cs_draft.specs.Draft.{IsUpdatedJob, IsUpdatedLine, is_guess, is_new_group, is_text};
 ghost use Rattle.cs_draft.specs.Draft.{may_follow, parts_of};
 ghost use Rattle.cs_command.specs.Locks.{lock_of};
 ghost use Rattle.cs_command.specs.Timeouts.{asked_for};
 
+use crate::given::{has_given, has_time, time_of};
 use crate::kept::{are_alike_jobs, follows, is_kept, is_new};
 use crate::names::{entry_of, is_left_out, is_text, job_entry};
 use crate::parts::{has_parts, parts_of};
@@ -23,6 +25,7 @@ use cs_decl::{AnacronEntry, CronEntry, DefaultEntry, Entries, GroupEntry};
 use cs_history::Mode;
 use cs_place::Place;
 use cs_plan::MAX_GROUPS;
+use cs_retrace::{Given, max_of};
 use cs_schedule::{MAX_GAP, Schedule, least_gap};
 use std::alloc::{AllocError, Global};
 
@@ -69,26 +72,56 @@ pub(crate) fn is_guess(command: &[u8], max: i128) -> bool
 
 // ---- lines
 
-/// Whether the entry has the times of a new command, weighs 1, and is marked as a guess if it is one.
-fn is_new_entry(asked: u64, names: &[Bytes], line: &Line, entry: &CronEntry) -> bool
-    ensures { IsTrue result → IsNewEntry asked names.now line.now entry.now }
+/// Whether the entry has the time that is given, or where none is, those of a new command, and is
+/// marked as a guess if the longest one is one.
+fn has_new_times(
+    given: Option<u64>,
+    asked: u64,
+    names: &[Bytes],
+    line: &Line,
+    entry: &CronEntry,
+) -> bool
+    ensures { IsTrue result → HasTimes given (HasNewTimes asked names.now line.now) entry.now }
 {
-    entry.weight == 1
-        && entry.guess == is_guess(line.command(), entry.max)
-        && is_timed(asked_for(asked, line.command()), line.when(), names, entry)
+    match given {
+        Some(max) => has_time(max, entry),
+        None => {
+            entry.guess == is_guess(line.command(), entry.max)
+                && is_timed(asked_for(asked, line.command()), line.when(), names, entry)
+        }
+    }
 }
 
-/// Whether the entry has the longest time and the weight of the default, and no parts.
-fn has_default(default: &DefaultEntry, entry: &CronEntry) -> bool
-    ensures max { IsTrue result → entry.now.max ≡ default.now.max }
-    ensures weight { IsTrue result → entry.now.weight ≡ default.now.weight }
-    ensures parts { IsTrue result → entry.now.parts ≡ [] }
-    ensures guess { IsTrue result → entry.now.guess ≡ false }
+/// Whether the entry has the times of a new command, and weighs 1.
+fn is_new_entry(
+    asked: u64,
+    given: &[Given],
+    names: &[Bytes],
+    line: &Line,
+    entry: &CronEntry,
+) -> bool
+    ensures { IsTrue result → IsNewEntry asked given.now names.now line.now entry.now }
 {
-    entry.max == default.max
-        && entry.weight == default.weight
-        && entry.parts.is_empty()
-        && !entry.guess
+    let time = time_of(given, line, names.is_empty(), entry.mode);
+    entry.weight == 1 && has_new_times(time, asked, names, line, entry)
+}
+
+/// Whether the entry has the time that is given, or where none is, that of the default, and no parts.
+fn has_default_time(given: Option<u64>, default: &DefaultEntry, entry: &CronEntry) -> bool
+    ensures { IsTrue result → HasTimes given (HasDefaultTime default.now) entry.now }
+{
+    match given {
+        Some(max) => has_time(max, entry),
+        None => entry.max == default.max && entry.parts.is_empty() && !entry.guess,
+    }
+}
+
+/// Whether the entry has such a time, and the weight of the default.
+fn has_default(given: &[Given], line: &Line, default: &DefaultEntry, entry: &CronEntry) -> bool
+    ensures { IsTrue result → IsDefaultEntry given.now line.now default.now entry.now }
+{
+    let time = time_of(given, line, true, entry.mode);
+    entry.weight == default.weight && has_default_time(time, default, entry)
 }
 
 /// Whether the entry takes the lock, or none if there can be no group of the file's name.
@@ -114,29 +147,31 @@ pub(crate) fn is_locked(
 }
 
 /// Whether a new command has what the entry left behind declares; or an entry that is new, or where
-/// there is a default, one that has that if the command takes a lock, and else none.
+/// there is a default, one that has that if the command has something of its own, and else none.
 fn is_added(
     asked: u64,
+    given: &[Given],
     names: &[Bytes],
     line: &Line,
-    lock: &Option<(Bytes, Mode)>,
+    own: bool,
     default: &Option<DefaultEntry>,
     behind: Option<&CronEntry>,
     entry: Option<&CronEntry>,
 ) -> bool
-    ensures { IsTrue result → IsAdded (IsNewEntry asked names.now line.now) lock.now default.now
-        (option_map (λ e. e.now) entry.entry)
+    ensures { IsTrue result → IsAdded (IsNewEntry asked given.now names.now line.now)
+        (IsDefaultEntry given.now line.now) own default.now (option_map (λ e. e.now) entry.entry)
         ⊎ IsSomeAnd (option_map (λ e. e.now) behind.entry) (λ o. (may_follow line.now o ≡ true)
-        × IsSomeAnd (option_map (λ e. e.now) entry.entry) (AreAlike names.now o)) }
+        × IsSomeAnd (option_map (λ e. e.now) entry.entry)
+        (AreAlike given.now line.now names.now o)) }
 {
-    if follows(behind, names, line, entry) {
+    if follows(behind, given, names, line, entry) {
         return true;
     }
     match (default, entry) {
-        (None, Some(entry)) => is_new_entry(asked, names, line, entry),
+        (None, Some(entry)) => is_new_entry(asked, given, names, line, entry),
         (None, None) => false,
-        (Some(default), Some(entry)) => lock.is_some() && has_default(default, entry),
-        (Some(_), None) => lock.is_none(),
+        (Some(default), Some(entry)) => own && has_default(given, line, default, entry),
+        (Some(_), None) => !own,
     }
 }
 
@@ -148,25 +183,29 @@ fn is_new_line(
     old: &Entries,
     behind: Option<&CronEntry>,
     max: u64,
+    given: &[Given],
     new: &Entries,
     line: &Line,
 ) -> Result<bool, AllocError>
     ensures added { IfOk result (λ b. IsTrue b
-        → IsAdded (IsNewEntry max (parts_of places.now line.now) line.now)
-        (lock_of line.now.command) old.now.default
+        → IsAdded (IsNewEntry max given.now (parts_of places.now line.now) line.now)
+        (IsDefaultEntry given.now line.now) (has_own given.now line.now) old.now.default
         (find (λ e. is_named e.name line.now) new.now.cron)
         ⊎ IsSomeAnd (option_map (λ e. e.now) behind.entry) (λ o. (may_follow line.now o ≡ true)
         × IsSomeAnd (find (λ e. is_named e.name line.now) new.now.cron)
-        (AreAlike (parts_of places.now line.now) o))) }
+        (AreAlike given.now line.now (parts_of places.now line.now) o))) }
     ensures left_out { IfOk result (λ b. IsTrue b → is_left_out new.now line.now ≡ false) }
     ensures locked { IfOk result (λ b. IsTrue b
         → IfSome (find (λ e. is_named e.name line.now) new.now.cron)
         (IsLocked new.now.groups (lock_of line.now.command))) }
 {
     let lock = own_lock(alloc, line.command())?;
+    let own = lock.is_some() || max_of(given, u64::from(line.number())).is_some();
     let names = parts_of(places, line);
     let entry = entry_of(new, line);
-    if is_left_out(new, line) || !is_added(max, names, line, &lock, &old.default, behind, entry) {
+    if is_left_out(new, line)
+        || !is_added(max, given, names, line, own, &old.default, behind, entry)
+    {
         return Ok(false);
     }
     match entry {
@@ -183,22 +222,24 @@ pub(crate) fn is_updated_line(
     old: &Entries,
     behind: Option<&CronEntry>,
     max: u64,
+    given: &[Given],
     new: &Entries,
     line: &Line,
 ) -> Result<bool, AllocError>
     ensures { IfOk result (λ b. IsTrue b
         → IsUpdatedLine lines.now places.now old.now (option_map (λ e. e.now) behind.entry) max
-        new.now line.now) }
+        given.now new.now line.now) }
 {
-    if !is_kept(false, places, lines, old, new, line)
-        || !is_kept(true, places, lines, old, new, line)
+    if !has_given(given, line, entry_of(new, line))
+        || !is_kept(false, given, places, lines, old, new, line)
+        || !is_kept(true, given, places, lines, old, new, line)
     {
         return Ok(false);
     }
     if !is_new(old, line) {
         return Ok(true);
     }
-    is_new_line(alloc, places, old, behind, max, new, line)
+    is_new_line(alloc, places, old, behind, max, given, new, line)
 }
 
 // ---- anacron jobs and groups

@@ -1,26 +1,24 @@
 //! The subcommand `draft`.
-ghost use Rattle.std.specs.Prelude.{◌≡◌, ◌≢◌, ◌++◌, [], IfErr, IfOk, true};
+ghost use Rattle.std.specs.Prelude.{◌≡◌, ◌≢◌, [], All, IfErr, IfOk, IfSome, IsNone, OnOk, option_map, true};
 ghost use Rattle.cs_args.specs.Asked.{asked_draft};
 ghost use Rattle.cs_plan.specs.Plain.{is_possible_max};
 ghost use Rattle.cs_io.specs.Files.{AreReadInTurn, IsFresh};
-ghost use Rattle.cs_files.specs.RanOut.{IsWarned};
-ghost use Rattle.cs_files.specs.Reads.{PlacesIn};
-ghost use Rattle.cs_files.specs.Response.{done};
-ghost use Rattle.cs_files.specs.Trouble.{CameTo, IsHonest, IsHonestOf};
+ghost use Rattle.cs_files.specs.Asked.{Tells, Warns};
+ghost use Rattle.cs_files.specs.Ending.{sink};
+ghost use Rattle.cs_files.specs.Trouble.{CameTo, IsHonestOf};
 ghost use Rattle.cs_files.specs.Turn.{draft_paths, some_path};
-ghost use Rattle.cs_draft.specs.Answer.{AnswersDraft, Drafts, DraftsTables};
-ghost use Rattle.cs_draft.specs.Answer.{PrintsDraft, PrintsUpdate};
+ghost use Rattle.cs_draft.specs.Answer.{FindsDraftable, IsRefused, PrintsDraft, PrintsUpdate, ReadsOld};
+ghost use Rattle.cs_draft.specs.Answer.{ReadsText, entries_in, is_line, updated};
 
-use crate::draft::{Draft, Drawing, draw_up, update};
-use cs_anacrontab::Anacrontab;
+use crate::draft::{Drawing, draw_up, update};
 use cs_args::{DraftWords, WordFault};
-use cs_crontab::Crontab;
+use cs_civil::Bytes;
+use cs_crontab::Line;
 use cs_decl::{Declarations, read_declarations};
-use cs_files::{Fault, RanOut, Response, Status, all_bytes_at, read_placed_tables};
-use cs_io::Inputs;
-use cs_place::Place;
-use cs_plan::{MAX_MINUTES, is_possible_max};
-use cs_report::warnings;
+use cs_files::{Fault, Response, Status, Tables, all_bytes_at, find_tables};
+use cs_io::{Inputs, Output};
+use cs_plan::is_possible_max;
+use cs_retrace::{Given, MaxFault, read_maxes};
 use std::alloc::{AllocError, Global};
 
 /// What is answered where no text passes.
@@ -31,135 +29,192 @@ fn nothing_drawn(alloc: Global) -> Result<Response, AllocError>
     Response::fault(alloc, Status::Unknown, b"".as_slice(), fault)
 }
 
-/// What is answered of what was drawn up.
-fn printed(draft: Draft) -> Response
-    ensures { result ≡ done draft.text draft.warnings }
+/// What is answered of a line of a text of longest times that has a fault: `PATH line 3: ..`.
+fn refused(alloc: Global, path: &str, place: u64, reason: &str) -> Result<Response, AllocError>
+    ensures { IfOk result IsRefused }
 {
-    Response::done(draft.text.into_vec(), draft.warnings)
+    let fault = format!(in alloc; "{path} line {place}: {reason}")?;
+    Response::fault(alloc, Status::BadInput, b"".as_slice(), fault.as_bytes())
 }
 
-/// What is answered of both tables and the places of the lines, where a job may declare this longest time.
-fn show_draft(
-    alloc: Global,
-    table: &Crontab,
-    jobs: &Anacrontab,
-    places: &[Place],
-    max: u64,
-    offset: i16,
-) -> Result<Response, AllocError>
-    requires { is_possible_max max ≡ true }
-    ensures { IfOk result (PrintsDraft table.now jobs.now places.now max offset) }
+/// What is answered where a text of longest times can't be read.
+fn misread(alloc: Global, path: &str, place: u64, fault: MaxFault) -> Result<Response, AllocError>
+    ensures { IfOk result IsRefused }
 {
-    match draw_up(alloc, table, jobs, places, max, offset)? {
-        Drawing::Drawn(draft) => Ok(printed(draft)),
-        _ => nothing_drawn(alloc),
+    let reason = match fault {
+        MaxFault::Shape => format!(in alloc; "not of the form 'line 3 25'")?,
+        MaxFault::Range(number) => {
+            format!(in alloc;
+                "line {number} gets a longest time that isn't from 1 to 4320 minutes"
+            )?
+        }
+        MaxFault::Twice(number) => {
+            format!(in alloc; "line {number} has a longest time already")?
+        }
+    };
+    refused(alloc, path, place, reason.as_str())
+}
+
+/// Whether the crontab has such a line.
+fn is_line(lines: &[Line], given: &Given) -> bool
+    ensures { result ≡ is_line lines.now given.now }
+{
+    lines
+        .iter()
+        .any(|line| u64::from(line.number()) == given.number)
+}
+
+/// The first longest time that is given for no line of the crontab.
+fn first_unknown(lines: &[Line], given: &[Given]) -> Option<Given>
+    ensures none { IsNone result → All (λ g. is_line lines.now g ≡ true) given.now }
+    ensures some { IfSome result (λ g. All (λ g. is_line lines.now g ≡ true) given.now → ⊥) }
+{
+    for one in given {
+        if !is_line(lines, one) {
+            return Some(*one);
+        }
     }
+    None
 }
 
-/// What is answered of both tables, the places of the lines and the old declarations in the bytes.
-fn show_update(
-    alloc: Global,
-    table: &Crontab,
-    jobs: &Anacrontab,
-    places: &[Place],
-    old: &Declarations,
-    bytes: &[u8],
-    max: u64,
-) -> Result<Response, AllocError>
-    requires { is_possible_max max ≡ true }
-    ensures { IfOk result (PrintsUpdate table.now jobs.now places.now old.now max) }
-{
-    match update(alloc, table, jobs, places, old, bytes, max)? {
-        Drawing::Drawn(draft) => Ok(printed(draft)),
-        _ => nothing_drawn(alloc),
-    }
-}
-
-/// What is answered once both tables were read.
-fn drawn<'a, I: Inputs>(
+/// The declarations at a path, and their bytes, if there is one.
+fn find_old<'a, I: Inputs>(
     alloc: Global,
     inputs: &mut I,
-    request: &DraftWords<'a>,
-    offset: i16,
-    tables: &(Crontab, Anacrontab),
-    places: &[Place],
-) -> Result<Response, Fault<'a>>
-    requires { is_possible_max request.now.max ≡ true }
+    path: Option<&'a str>,
+) -> Result<Option<(Declarations, Vec<u8>)>, Fault<'a>>
     ensures step { IsFresh (I.whole inputs.old) (I.left inputs.old)
-        → PlacesIn (I.whole inputs.old) (asked_draft request.now).table tables.now.0 places.now
-        → CameTo (Drafts (I.whole inputs.old) (asked_draft request.now).table
-        (asked_draft request.now).max offset (asked_draft request.now).update tables.now
-        (I.failed inputs.old) (I.failed inputs.new)) result }
+        → CameTo (ReadsOld (I.whole inputs.old) (option_map (λ path. path.now) path.entry)
+        (I.failed inputs.old) (I.failed inputs.new)) (entries_in result) }
+    ensures works { OnOk result (I.failed inputs.new ≡ I.failed inputs.old) }
+    ensures whole { I.whole inputs.new ≡ I.whole inputs.old }
+    ensures fresh { OnOk result (IsFresh (I.whole inputs.old) (I.left inputs.old)
+        → IsFresh (I.whole inputs.new) (I.left inputs.new)) }
     ensures status { IfErr result (IsHonestOf (I.failed inputs.new) (I.reads inputs.new)) }
-    ensures turn { AreReadInTurn (some_path (asked_draft request.now).update)
+    ensures turn { AreReadInTurn (some_path (option_map (λ path. path.now) path.entry))
         (I.reads inputs.old) (I.reads inputs.new) }
-    ensures done { IfOk result (λ r. r.status ≢ 6) }
 {
-    let (table, jobs) = (&tables.0, &tables.1);
-    match request.update {
+    match path {
         Some(path) => {
             let bytes = all_bytes_at(alloc, inputs, path)?;
             let old = read_declarations(alloc, bytes.as_slice())?;
-            let bytes = bytes.as_slice();
-            let max = request.max;
-            Ok(show_update(alloc, table, jobs, places, &old, bytes, max)?)
+            Ok(Some((old, bytes)))
         }
-        None => Ok(show_draft(alloc, table, jobs, places, request.max, offset)?),
+        None => Ok(None),
     }
 }
 
-/// What is answered where a job may declare this longest time.
-fn draft_tables<I: Inputs>(
+/// The text at a path, or an empty one.
+fn text_at<'a, I: Inputs>(
     alloc: Global,
-    request: &DraftWords<'_>,
-    offset: i16,
     inputs: &mut I,
-) -> Result<Response, RanOut>
-    requires { is_possible_max request.now.max ≡ true }
-    ensures value { IsFresh (I.whole inputs.old) (I.left inputs.old)
-        → IfOk result (DraftsTables (asked_draft request.now) offset (I.whole inputs.old)
-        (I.failed inputs.old) (I.failed inputs.new)) }
-    ensures status { IfOk result (IsHonest (I.failed inputs.new) (I.reads inputs.new)) }
-    ensures warned { IsFresh (I.whole inputs.old) (I.left inputs.old)
-        → IfErr result (λ e. IsWarned (I.whole inputs.old) (asked_draft request.now).table
-        (asked_draft request.now).anacrontab (I.failed inputs.old)
-        (I.reads inputs.old) (I.reads inputs.new) e.warnings) }
-    ensures turn { AreReadInTurn (draft_paths (asked_draft request.now))
+    path: Option<&'a str>,
+) -> Result<Bytes, Fault<'a>>
+    ensures step { IsFresh (I.whole inputs.old) (I.left inputs.old)
+        → CameTo (ReadsText (I.whole inputs.old) (option_map (λ path. path.now) path.entry)
+        (I.failed inputs.old) (I.failed inputs.new)) result }
+    ensures works { OnOk result (I.failed inputs.new ≡ I.failed inputs.old) }
+    ensures status { IfErr result (IsHonestOf (I.failed inputs.new) (I.reads inputs.new)) }
+    ensures turn { AreReadInTurn (some_path (option_map (λ path. path.now) path.entry))
         (I.reads inputs.old) (I.reads inputs.new) }
 {
-    let read = read_placed_tables(alloc, inputs, request.table, request.anacrontab);
-    let (tables, places) = match read {
-        Ok(found) => found,
-        Err(fault) => return Ok(fault.response(alloc, b"".as_slice())?),
+    match path {
+        Some(path) => Ok(Bytes::from_vec(all_bytes_at(alloc, inputs, path)?)),
+        None => Ok(Bytes::new(alloc)),
+    }
+}
+
+/// Both tables, old declarations with their bytes, if there are some, and the text of longest times.
+#[derive(Drop)]
+pub struct Draftable {
+    /// The tables.
+    pub tables: Tables,
+    /// The old declarations.
+    pub old: Option<(Declarations, Vec<u8>)>,
+    /// The longest times of jobs, as `learn` prints them.
+    pub maxes: Bytes,
+}
+
+/// Reads both tables, the old declarations, if there are some, and then the longest times, and writes to
+/// standard error what is to be warned of the tables; but not where no job may declare the longest time
+/// that is asked.
+pub fn find_draftable<'a, I: Inputs, E: Output>(
+    alloc: Global,
+    inputs: &mut I,
+    err: &mut E,
+    words: &DraftWords<'a>,
+) -> Result<Draftable, Fault<'a>>
+    ensures value { IsFresh (I.whole inputs.old) (I.left inputs.old)
+        → Tells (λ w. Warns (I.whole inputs.old) (asked_draft words.now).table
+        (asked_draft words.now).anacrontab (I.failed inputs.old)
+        (I.reads inputs.old) (I.reads inputs.new) w
+        × CameTo (FindsDraftable (asked_draft words.now) (I.whole inputs.old) w
+        (I.failed inputs.old) (I.failed inputs.new)) result)
+        (sink (E.contents err.old) (E.failed err.old))
+        (sink (E.contents err.new) (E.failed err.new)) }
+    ensures status { IfErr result (IsHonestOf (I.failed inputs.new) (I.reads inputs.new)) }
+    ensures turn { AreReadInTurn (draft_paths (asked_draft words.now))
+        (I.reads inputs.old) (I.reads inputs.new) }
+{
+    if !is_possible_max(words.max) {
+        return Err(Fault::Words(WordFault::BadMax));
+    }
+    let tables = find_tables(alloc, inputs, err, words.table, words.anacrontab)?;
+    let old = find_old(alloc, inputs, words.update)?;
+    let maxes = text_at(alloc, inputs, words.maxes)?;
+    Ok(Draftable { tables, old, maxes })
+}
+
+/// What is answered by these longest times.
+fn show(
+    alloc: Global,
+    max: u64,
+    offset: i16,
+    found: &Draftable,
+    given: &[Given],
+) -> Result<Response, AllocError>
+    ensures printed { IfOk result (λ r. is_possible_max max ≡ true
+        → PrintsUpdate found.now.tables.crontab found.now.tables.jobs found.now.tables.places
+        (updated offset (option_map (λ p. p.0) found.now.old)) max given.now r) }
+    ensures done { IfOk result (λ r. r.status ≢ 6) }
+{
+    let (table, jobs) = (&found.tables.crontab, &found.tables.jobs);
+    let places = found.tables.places.as_slice();
+    let remarks = found.maxes.as_slice();
+    let drawing = match &found.old {
+        Some((old, bytes)) => {
+            let bytes = bytes.as_slice();
+            update(alloc, table, jobs, places, old, bytes, max, given, remarks)?
+        }
+        None => draw_up(alloc, table, jobs, places, max, given, remarks, offset)?,
     };
-    let warnings = warnings(alloc, &tables.0, &tables.1)?;
-    match drawn(alloc, inputs, request, offset, &tables, places.as_slice()) {
-        Ok(answer) => answer.behind(warnings),
-        Err(fault) => fault.response_behind(alloc, warnings),
+    match drawing {
+        Drawing::Drawn(draft) => Ok(Response::done(draft.text.into_vec(), draft.warnings)),
+        _ => nothing_drawn(alloc),
     }
 }
 
-/// The answer to `draft TABLE [--anacrontab FILE] [--max N] [--update OLD]`, where clocks are ahead of
-/// UTC by `offset` minutes.
-pub fn answer_draft<I: Inputs>(
+/// Answers `draft TABLE [--anacrontab FILE] [--max N] [--update OLD] [--max-from FILE]`, where clocks are
+/// ahead of UTC by `offset` minutes. The only error is want of memory.
+pub fn answer_draft(
     alloc: Global,
-    request: &DraftWords<'_>,
+    words: &DraftWords<'_>,
     offset: i16,
-    inputs: &mut I,
-) -> Result<Response, RanOut>
-    ensures value { IsFresh (I.whole inputs.old) (I.left inputs.old)
-        → IfOk result (AnswersDraft (asked_draft request.now) offset (I.whole inputs.old)
-        (I.failed inputs.old) (I.failed inputs.new)) }
-    ensures status { IfOk result (IsHonest (I.failed inputs.new) (I.reads inputs.new)) }
-    ensures warned { IsFresh (I.whole inputs.old) (I.left inputs.old)
-        → IfErr result (λ e. IsWarned (I.whole inputs.old) (asked_draft request.now).table
-        (asked_draft request.now).anacrontab (I.failed inputs.old)
-        (I.reads inputs.old) (I.reads inputs.new) e.warnings) }
-    ensures turn { AreReadInTurn (draft_paths (asked_draft request.now))
-        (I.reads inputs.old) (I.reads inputs.new) }
+    found: &Draftable,
+) -> Result<Response, AllocError>
+    ensures printed { IfOk result (λ r. is_possible_max words.now.max ≡ true
+        → PrintsDraft words.now.max offset found.now r) }
+    ensures done { IfOk result (λ r. r.status ≢ 6) }
 {
-    if is_possible_max(request.max) {
-        return draft_tables(alloc, request, offset, inputs);
+    let path = words.maxes.unwrap_or("");
+    let given = match read_maxes(alloc, found.maxes.as_slice())? {
+        Ok(given) => given,
+        Err((place, fault)) => return misread(alloc, path, place, fault),
+    };
+    if let Some(one) = first_unknown(found.tables.crontab.lines(), given.as_slice()) {
+        let number = one.number;
+        let reason = format!(in alloc; "line {number} of the crontab has no job")?;
+        return refused(alloc, path, one.place, reason.as_str());
     }
-    Ok(Fault::Words(WordFault::BadMax).response(alloc, b"".as_slice())?)
+    show(alloc, words.max, offset, found, given.as_slice())
 }

@@ -15,10 +15,11 @@ use cs_crontab::{Crontab, Line};
 use cs_decl::{Declarations, Entries, join, read_declarations};
 use cs_place::Place;
 use cs_plan::DeclError;
+use cs_retrace::Given;
 use std::alloc::{AllocError, Global};
 
 /// What the text declares, if it does. The only error is want of memory.
-pub fn declared(alloc: Global, text: &[u8]) -> Result<Option<Declarations>, AllocError>
+fn declared(alloc: Global, text: &[u8]) -> Result<Option<Declarations>, AllocError>
     ensures { IfOk result (λ found. IfSome found (λ d. declared_by text.now ≡ Ok d)) }
 {
     match read_declarations(alloc, text) {
@@ -69,14 +70,15 @@ fn are_updated_lines(
     places: &[Place],
     old: &Entries,
     max: u64,
+    given: &[Given],
     new: &Entries,
 ) -> Result<bool, AllocError>
     ensures { IfOk result (λ b. IsTrue b → All (IsUpdatedLine lines.now places.now old.now
-        (left_behind lines.now old.now) max new.now) lines.now) }
+        (left_behind lines.now old.now) max given.now new.now) lines.now) }
 {
     let behind = left_behind(lines, old);
     for line in lines {
-        if !is_updated_line(alloc, lines, places, old, behind, max, new, line)? {
+        if !is_updated_line(alloc, lines, places, old, behind, max, given, new, line)? {
             return Ok(false);
         }
     }
@@ -102,10 +104,11 @@ fn are_updates(
     places: &[Place],
     old: &Entries,
     max: u64,
+    given: &[Given],
     new: &Entries,
 ) -> Result<bool, AllocError>
     ensures { IfOk result (λ b. IsTrue b
-        → AreUpdates table.now jobs.now places.now old.now max new.now) }
+        → AreUpdates table.now jobs.now places.now old.now max given.now new.now) }
 {
     if !are_terms(old, new)
         || !are_new_groups(old, new)
@@ -113,7 +116,7 @@ fn are_updates(
     {
         return Ok(false);
     }
-    are_updated_lines(alloc, table.lines(), places, old, max, new)
+    are_updated_lines(alloc, table.lines(), places, old, max, given, new)
 }
 
 /// Whether the text is an update of the declarations, and these warnings tell the locks that it
@@ -125,11 +128,12 @@ pub(crate) fn is_update(
     places: &[Place],
     old: &Entries,
     max: u64,
+    given: &[Given],
     text: &[u8],
     warnings: &[u8],
 ) -> Result<bool, AllocError>
     ensures update { IfOk result
-        (λ b. IsTrue b → IsUpdate table.now jobs.now places.now old.now max text.now) }
+        (λ b. IsTrue b → IsUpdate table.now jobs.now places.now old.now max given.now text.now) }
     ensures warned { IfOk result
         (λ b. IsTrue b → Warn table.now jobs.now old.now text.now warnings.now) }
 {
@@ -138,7 +142,7 @@ pub(crate) fn is_update(
     };
     let new = declarations.entries();
     if !are_sound(new, table.lines())
-        || !are_updates(alloc, table, jobs, places, old, max, new)?
+        || !are_updates(alloc, table, jobs, places, old, max, given, new)?
         || !are_warned(alloc, table, jobs, old, new, warnings)?
     {
         return Ok(false);

@@ -11,6 +11,7 @@ use cs_decl::{Declarations, Entries};
 use cs_json::{Misread, parse};
 use cs_place::Place;
 use cs_plan::{MAX_CAPACITY, is_possible_max};
+use cs_retrace::Given;
 use std::alloc::{AllocError, Global};
 
 /// Declarations to begin from, and what an operator has to know of them.
@@ -71,9 +72,11 @@ fn drawn(
     entries: &Entries,
     bytes: &[u8],
     max: u64,
+    given: &[Given],
+    remarks: &[u8],
     is_draft: bool,
 ) -> Result<Drawing, AllocError>
-    ensures { IfOk result (IsDrawing table.now jobs.now places.now entries.now max) }
+    ensures { IfOk result (IsDrawing table.now jobs.now places.now entries.now max given.now) }
 {
     if !is_possible_max(max) {
         return Ok(Drawing::BadMax);
@@ -88,7 +91,7 @@ fn drawn(
         entries,
         is_draft,
     };
-    let (text, told) = updated_text(alloc, table, jobs, places, old, max)?;
+    let (text, told) = updated_text(alloc, table, jobs, places, old, max, given, remarks)?;
     let text = Bytes::from_vec(text);
     let warnings = Bytes::from_vec(told.text);
     if is_update(
@@ -98,6 +101,7 @@ fn drawn(
         places,
         entries,
         max,
+        given,
         text.as_slice(),
         warnings.as_slice(),
     )? {
@@ -117,21 +121,29 @@ fn drawn(
 /// that is a plain call of flock(1), behind settings, guards and nice(1), has the group of the lock
 /// file, which is exclusive, and the mode that the options ask for. Each other command that names a
 /// program that locks files has no lock, and a warning says how to declare one. `@reboot` lines are
-/// left out, each with a warning. What is drawn up was read back, compared with the commands and
-/// joined with the tables. The only error is want of memory.
+/// left out, each with a warning. A command without parts whose line has a longest time that is
+/// given has that, one minute more where its runs wait for a lock, and no less than timeout(1)
+/// allows it, where a job may have as much. The remarks are passed on. What is drawn up was read
+/// back, compared with the commands and joined with the tables. The only error is want of memory.
 pub fn draw_up(
     alloc: Global,
     table: &Crontab,
     jobs: &Anacrontab,
     places: &[Place],
     max: u64,
+    given: &[Given],
+    remarks: &[u8],
     offset: i16,
 ) -> Result<Drawing, AllocError>
-    ensures { IfOk result (IsDrawing table.now jobs.now places.now (nothing offset) max) }
+    ensures { IfOk result
+        (IsDrawing table.now jobs.now places.now (nothing offset) max given.now) }
 {
     let old = nothing(alloc, offset);
     let text = text_of_nothing(alloc, offset)?;
-    drawn(alloc, table, jobs, places, &old, text.as_bytes(), max, true)
+    let bytes = text.as_bytes();
+    drawn(
+        alloc, table, jobs, places, &old, bytes, max, given, remarks, true,
+    )
 }
 
 /// The old declarations, which were read from the bytes, for the jobs of both tables.
@@ -156,8 +168,21 @@ pub fn update(
     old: &Declarations,
     bytes: &[u8],
     max: u64,
+    given: &[Given],
+    remarks: &[u8],
 ) -> Result<Drawing, AllocError>
-    ensures { IfOk result (IsDrawing table.now jobs.now places.now old.now max) }
+    ensures { IfOk result (IsDrawing table.now jobs.now places.now old.now max given.now) }
 {
-    drawn(alloc, table, jobs, places, old.entries(), bytes, max, false)
+    drawn(
+        alloc,
+        table,
+        jobs,
+        places,
+        old.entries(),
+        bytes,
+        max,
+        given,
+        remarks,
+        false,
+    )
 }

@@ -3,9 +3,10 @@ ghost use Rattle.std.specs.Prelude.{◌≡◌, IfSome, IsSomeAnd, IsTrue, length
 ghost use Rattle.std.specs.List.{count_by, find, list_any};
 ghost use Rattle.cs_decl.specs.Join.{is_named};
 ghost use Rattle.cs_decl.specs.Lines.{names_of};
-ghost use Rattle.cs_draft.specs.Draft.{AreAlike, IsKept, is_gone, is_lone, is_new, left_behind};
+ghost use Rattle.cs_draft.specs.Draft.{AreAlike, HasTimes, IsKept, KeepsTimes, is_gone, is_lone, is_new, left_behind};
 ghost use Rattle.cs_draft.specs.Draft.{is_text, may_follow, parts_of, tells};
 
+use crate::given::{has_time, time_of};
 use crate::names::{count_like, entry_of, is_left_out, is_text, tells};
 use crate::parts::{keeps_times, parts_of};
 use cs_civil::Bytes;
@@ -14,14 +15,39 @@ use cs_crontab::Line;
 use cs_decl::{AnacronEntry, CronEntry, Entries, GroupEntry, LineName, is_told_when};
 use cs_place::Place;
 use cs_plan::is_reboot;
+use cs_retrace::Given;
 
-fn are_alike(names: &[Bytes], old: &CronEntry, new: &CronEntry) -> bool
-    ensures { IsTrue result → AreAlike names.now old.now new.now }
+/// Whether the new entry has the time that is given, or where none is, those of the old one, but for
+/// parts that came or went.
+fn has_times(given: Option<u64>, names: &[Bytes], old: &CronEntry, new: &CronEntry) -> bool
+    ensures { IsTrue result → HasTimes given (KeepsTimes names.now old.now) new.now }
 {
-    keeps_times(names, old, new)
-        && old.weight == new.weight
-        && old.group == new.group
-        && old.mode == new.mode
+    match given {
+        Some(max) => has_time(max, new),
+        None => keeps_times(names, old, new),
+    }
+}
+
+/// Whether weight, group and mode are the same.
+fn are_same_terms(old: &CronEntry, new: &CronEntry) -> bool
+    ensures weight { IsTrue result → new.now.weight ≡ old.now.weight }
+    ensures group { IsTrue result → new.now.group ≡ old.now.group }
+    ensures mode { IsTrue result → new.now.mode ≡ old.now.mode }
+{
+    old.weight == new.weight && old.group == new.group && old.mode == new.mode
+}
+
+fn are_alike(
+    given: &[Given],
+    line: &Line,
+    names: &[Bytes],
+    old: &CronEntry,
+    new: &CronEntry,
+) -> bool
+    ensures { IsTrue result → AreAlike given.now line.now names.now old.now new.now }
+{
+    let time = time_of(given, line, old.parts.is_empty(), new.mode);
+    are_same_terms(old, new) && has_times(time, names, old, new)
 }
 
 pub(crate) fn are_alike_jobs(old: &AnacronEntry, new: &AnacronEntry) -> bool
@@ -135,16 +161,20 @@ pub(crate) fn may_follow(line: &Line, old: &CronEntry) -> bool
 /// Whether the line has what the entry left behind declares, and may have it.
 pub(crate) fn follows(
     behind: Option<&CronEntry>,
+    given: &[Given],
     names: &[Bytes],
     line: &Line,
     entry: Option<&CronEntry>,
 ) -> bool
     ensures { IsTrue result → IsSomeAnd (option_map (λ e. e.now) behind.entry)
         (λ o. (may_follow line.now o ≡ true)
-        × IsSomeAnd (option_map (λ e. e.now) entry.entry) (AreAlike names.now o)) }
+        × IsSomeAnd (option_map (λ e. e.now) entry.entry)
+        (AreAlike given.now line.now names.now o)) }
 {
     match (behind, entry) {
-        (Some(old), Some(entry)) => may_follow(line, old) && are_alike(names, old, entry),
+        (Some(old), Some(entry)) => {
+            may_follow(line, old) && are_alike(given, line, names, old, entry)
+        }
         _ => false,
     }
 }
@@ -167,14 +197,21 @@ fn was_left_out(timed: bool, old: &Entries, line: &Line) -> bool
 }
 
 /// Whether the line's entry declares what the old one that tells it does, if there is one.
-fn keeps_entry(timed: bool, places: &[Place], old: &Entries, new: &Entries, line: &Line) -> bool
+fn keeps_entry(
+    timed: bool,
+    given: &[Given],
+    places: &[Place],
+    old: &Entries,
+    new: &Entries,
+    line: &Line,
+) -> bool
     ensures { IsTrue result → IfSome (find (λ e. tells timed line.now e.name) old.now.cron)
         (λ o. IsSomeAnd (find (λ e. is_named e.name line.now) new.now.cron)
-        (AreAlike (parts_of places.now line.now) o)) }
+        (AreAlike given.now line.now (parts_of places.now line.now) o)) }
 {
     match entry_that_tells(timed, old, line) {
         Some(old) => match entry_of(new, line) {
-            Some(new) => are_alike(parts_of(places, line), old, new),
+            Some(new) => are_alike(given, line, parts_of(places, line), old, new),
             None => false,
         },
         None => true,
@@ -184,16 +221,17 @@ fn keeps_entry(timed: bool, places: &[Place], old: &Entries, new: &Entries, line
 /// Whether the line, if one old entry alone tells it, is declared as before.
 pub(crate) fn is_kept(
     timed: bool,
+    given: &[Given],
     places: &[Place],
     lines: &[Line],
     old: &Entries,
     new: &Entries,
     line: &Line,
 ) -> bool
-    ensures { IsTrue result → IsKept timed places.now lines.now old.now new.now line.now }
+    ensures { IsTrue result → IsKept timed given.now places.now lines.now old.now new.now line.now }
 {
     !is_lone(timed, lines, old, line)
-        || keeps_entry(timed, places, old, new, line)
+        || keeps_entry(timed, given, places, old, new, line)
             && (!was_left_out(timed, old, line) || is_left_out(new, line))
 }
 

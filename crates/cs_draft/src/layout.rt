@@ -3,11 +3,6 @@
 use serde_json::Value;
 use std::alloc::{AllocError, Global};
 
-/// The text in quotes, as JSON writes it.
-fn quoted(alloc: Global, text: &str) -> Result<String, AllocError> {
-    Value::String(String::from_str(alloc, text)?).to_string(alloc)
-}
-
 /// The text of a value, with a blank behind each comma of a list.
 pub(crate) fn value_text(alloc: Global, value: &Value) -> Result<String, AllocError> {
     let Some(items) = value.as_array() else {
@@ -27,6 +22,7 @@ pub(crate) fn value_text(alloc: Global, value: &Value) -> Result<String, AllocEr
 /// The members of an object: each on a line of its own in the outermost one, and else all on one.
 #[derive(Drop)]
 pub(crate) struct Object {
+    alloc: Global,
     members: String,
     is_outermost: bool,
 }
@@ -34,6 +30,7 @@ pub(crate) struct Object {
 impl Object {
     pub(crate) fn new(alloc: Global) -> Object {
         Object {
+            alloc,
             members: String::new(alloc),
             is_outermost: false,
         }
@@ -41,6 +38,7 @@ impl Object {
 
     pub(crate) fn outermost(alloc: Global) -> Object {
         Object {
+            alloc,
             members: String::new(alloc),
             is_outermost: true,
         }
@@ -59,66 +57,47 @@ impl Object {
     }
 
     /// Adds a member that is a whole number.
-    pub(crate) fn add_number(
-        &mut self,
-        alloc: Global,
-        name: &str,
-        number: u64,
-    ) -> Result<(), AllocError> {
-        self.add(name, format!(in alloc; "{number}")?.as_str())
+    pub(crate) fn add_number(&mut self, name: &str, number: u64) -> Result<(), AllocError> {
+        self.add(name, format!(in self.alloc; "{number}")?.as_str())
     }
 
-    /// Adds a member that is a text.
-    pub(crate) fn add_text(
-        &mut self,
-        alloc: Global,
-        name: &str,
-        text: &str,
-    ) -> Result<(), AllocError> {
-        self.add(name, quoted(alloc, text)?.as_str())
+    /// Adds a member that is a text, in quotes, as JSON writes it.
+    pub(crate) fn add_text(&mut self, name: &str, text: &str) -> Result<(), AllocError> {
+        let text = Value::String(String::from_str(self.alloc, text)?);
+        self.add(name, text.to_string(self.alloc)?.as_str())
     }
 
     /// Adds those of the named members that a value has.
-    pub(crate) fn add_members(
-        &mut self,
-        alloc: Global,
-        value: &Value,
-        names: &[&str],
-    ) -> Result<(), AllocError> {
+    pub(crate) fn add_members(&mut self, value: &Value, names: &[&str]) -> Result<(), AllocError> {
         for name in names {
             if let Some(member) = value.get(*name) {
-                self.add(*name, value_text(alloc, member)?.as_str())?;
+                self.add(*name, value_text(self.alloc, member)?.as_str())?;
             }
         }
         Ok(())
     }
 
     /// Adds a member that is a list of objects: each on a line of its own in the outermost object.
-    pub(crate) fn add_list(
-        &mut self,
-        alloc: Global,
-        name: &str,
-        objects: &[Object],
-    ) -> Result<(), AllocError> {
+    pub(crate) fn add_list(&mut self, name: &str, objects: &[Object]) -> Result<(), AllocError> {
         let (front, between, end) = if self.is_outermost {
             ("[\n    ", ",\n    ", "\n  ]")
         } else {
             ("[", ", ", "]")
         };
-        let mut text = String::from_str(alloc, front)?;
+        let mut text = String::from_str(self.alloc, front)?;
         for (i, object) in objects.iter().enumerate() {
             if i > 0 {
                 text.push_str(between)?;
             }
-            text.push_str(object.text(alloc)?.as_str())?;
+            text.push_str(object.text()?.as_str())?;
         }
         text.push_str(end)?;
         self.add(name, text.as_str())
     }
 
     /// The text of the object.
-    pub(crate) fn text(&self, alloc: Global) -> Result<String, AllocError> {
-        let members = self.members.as_str();
+    pub(crate) fn text(&self) -> Result<String, AllocError> {
+        let (alloc, members) = (self.alloc, self.members.as_str());
         if self.is_outermost {
             return format!(in alloc; "{{\n  {members}\n}}\n");
         }

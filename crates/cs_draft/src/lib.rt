@@ -6,6 +6,7 @@ mod added;
 mod answer;
 mod confirm;
 mod draft;
+mod given;
 mod kept;
 mod layout;
 mod names;
@@ -18,7 +19,5 @@ mod told;
 mod updated;
 mod warned;
 
-pub use answer::answer_draft;
-pub use confirm::declared;
+pub use answer::{Draftable, answer_draft, find_draftable};
 pub use draft::{Draft, Drawing, draw_up, update};
-pub use parts::are_same_parts;

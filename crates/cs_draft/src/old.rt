@@ -4,6 +4,7 @@
 use crate::told::Told;
 use cs_crontab::Line;
 use cs_decl::{Entries, LineName, PartEntry, is_told_when};
+use cs_history::Mode;
 use cs_plan::is_reboot;
 use serde_json::Value;
 use std::alloc::{AllocError, Global};
@@ -24,6 +25,8 @@ pub(crate) struct Bound<'v> {
     pub(crate) name: &'v LineName,
     /// Its parts; of an entry that leaves a line out there are none.
     pub(crate) parts: &'v [PartEntry],
+    pub(crate) max: i128,
+    pub(crate) mode: Mode,
     pub(crate) is_guess: bool,
     pub(crate) is_left_out: bool,
 }
@@ -74,6 +77,8 @@ pub(crate) fn bound_in<'v>(
             value,
             name: &entry.name,
             parts: entry.parts.as_slice(),
+            max: entry.max,
+            mode: entry.mode,
             is_guess: entry.guess,
             is_left_out: false,
         })?;
@@ -88,6 +93,8 @@ pub(crate) fn bound_in<'v>(
             value,
             name,
             parts: &[],
+            max: 0,
+            mode: Mode::Plain,
             is_guess: false,
             is_left_out: true,
         })?;

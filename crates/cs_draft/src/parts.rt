@@ -179,7 +179,7 @@ fn is_same_part(old: &PartEntry, new: &PartEntry) -> bool
 }
 
 /// Whether the parts are the same, in the same order.
-pub fn are_same_parts(old: &[PartEntry], new: &[PartEntry]) -> bool
+fn are_same_parts(old: &[PartEntry], new: &[PartEntry]) -> bool
     ensures { IsTrue result → new.now ≡ old.now }
 {
     if new.len() != old.len() {

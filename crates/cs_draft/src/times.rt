@@ -18,26 +18,21 @@ fn new_part(alloc: Global, name: &[u8], share: u64) -> Result<Object, AllocError
     let mut part = Object::new(alloc);
     // the names that comments of a table tell are ASCII
     if let Ok(name) = str::from_utf8(name) {
-        part.add_text(alloc, "name", name)?;
+        part.add_text("name", name)?;
     }
-    part.add_number(alloc, "max", share)?;
+    part.add_number("max", share)?;
     Ok(part)
 }
 
 fn old_part(alloc: Global, old: &Value) -> Result<Object, AllocError> {
     let mut part = Object::new(alloc);
-    part.add_members(alloc, old, ["name", "max", "note"].as_slice())?;
+    part.add_members(old, ["name", "max", "note"].as_slice())?;
     Ok(part)
 }
 
 /// Adds the longest time of an entry in minutes, and whether it is a guess.
-pub(crate) fn add_max(
-    alloc: Global,
-    entry: &mut Object,
-    max: u64,
-    is_guess: bool,
-) -> Result<(), AllocError> {
-    entry.add_number(alloc, "max", max)?;
+pub(crate) fn add_max(entry: &mut Object, max: u64, is_guess: bool) -> Result<(), AllocError> {
+    entry.add_number("max", max)?;
     if is_guess {
         entry.add("guess", "true")?;
     }
@@ -66,17 +61,17 @@ pub(crate) fn add_new_times(
     let asked = asked_for(asked, command);
     if names.is_empty() {
         let max = brief_max(schedule, asked);
-        return add_max(alloc, entry, max, is_guess(command, i128::from(max)));
+        return add_max(entry, max, is_guess(command, i128::from(max)));
     }
     let count = names.len() as u64;
     let share = share_of(schedule, asked, count);
     let max = share.saturating_mul(count);
-    add_max(alloc, entry, max, is_guess(command, i128::from(max)))?;
+    add_max(entry, max, is_guess(command, i128::from(max)))?;
     let mut parts = Vec::new(alloc);
     for name in names {
         parts.push(new_part(alloc, name.as_slice(), share)?)?;
     }
-    entry.add_list(alloc, "parts", parts.as_slice())
+    entry.add_list("parts", parts.as_slice())
 }
 
 /// Adds the longest time of an old entry, and its parts.
@@ -85,7 +80,7 @@ pub(crate) fn add_old_times(
     entry: &mut Object,
     old: &Value,
 ) -> Result<(), AllocError> {
-    entry.add_members(alloc, old, ["max", "guess"].as_slice())?;
+    entry.add_members(old, ["max", "guess"].as_slice())?;
     if old.get("parts").is_none() {
         return Ok(());
     }
@@ -93,7 +88,7 @@ pub(crate) fn add_old_times(
     for part in items(old, "parts") {
         parts.push(old_part(alloc, part)?)?;
     }
-    entry.add_list(alloc, "parts", parts.as_slice())
+    entry.add_list("parts", parts.as_slice())
 }
 
 /// The longest time of the new ones among parts of those names, which is the asked one or as many
@@ -131,7 +126,7 @@ pub(crate) fn add_renewed_times(
     names: &[Bytes],
 ) -> Result<(), AllocError> {
     let is_guess = old.is_guess || !all_are_parts(names, old.parts);
-    add_max(alloc, entry, all, is_guess)?;
+    add_max(entry, all, is_guess)?;
     let mut parts = Vec::new(alloc);
     for name in names {
         let name = name.as_slice();
@@ -141,5 +136,5 @@ pub(crate) fn add_renewed_times(
         };
         parts.push(part)?;
     }
-    entry.add_list(alloc, "parts", parts.as_slice())
+    entry.add_list("parts", parts.as_slice())
 }

@@ -3,6 +3,8 @@ ghost use Rattle.std.specs.Prelude.{◌≡◌, IfOk};
 ghost use Rattle.cs_draft.specs.Draft.{warning_of};
 
 use cs_civil::push_number;
+use cs_place::push_shown;
+use cs_table::text::first_line;
 use std::alloc::{AllocError, Global};
 
 /// The tables, as warnings name them.
@@ -48,6 +50,21 @@ impl Told {
 
     pub(crate) fn warn(&mut self, warning: String) -> Result<(), AllocError> {
         self.tell(b"warning: ", warning.as_bytes())
+    }
+
+    /// Passes on what the comments of a text of longest times warn of.
+    pub(crate) fn remark(&mut self, remarks: &[u8]) -> Result<(), AllocError> {
+        let mut rest = remarks;
+        while !rest.is_empty() {
+            let (line, behind) = first_line(rest);
+            if let Some(warning) = line.strip_prefix(b"# warning: ".as_slice()) {
+                self.text.extend_from_slice(b"warning: ")?;
+                push_shown(&mut self.text, warning)?;
+                self.text.extend_from_slice(b"\n")?;
+            }
+            rest = behind;
+        }
+        Ok(())
     }
 
     /// The command on that line of that table may take a lock that isn't declared.

@@ -13,9 +13,12 @@ use cs_crontab::{Crontab, Line, When};
 use cs_decl::Entries;
 use cs_diagnostics::shown;
 use cs_place::Place;
+use cs_retrace::Given;
 use cs_schedule::Schedule;
 use serde_json::Value;
 use std::alloc::{AllocError, Global};
+
+type Done = Result<(), AllocError>;
 
 /// The line that is new and the entry left behind, if the line may have that, and takes its lock.
 fn follower_of(
@@ -61,11 +64,12 @@ impl<'a> Update<'a> {
         places: &'a [Place],
         old: Old<'a>,
         max: u64,
+        given: &'a [Given],
     ) -> Result<Update<'a>, AllocError> {
-        let mut sheet = Sheet::new(alloc, lines, places, max);
+        let mut sheet = Sheet::new(alloc, lines, places, max, given);
         for group in items(old.value, "groups") {
             if let Some(name) = text_of(group, "name") {
-                sheet.add_group(alloc, name, group)?;
+                sheet.add_group(name, group)?;
             }
         }
         let bound = bound_in(alloc, &mut sheet.told, old)?;
@@ -91,37 +95,35 @@ impl<'a> Update<'a> {
 
     /// Adds a line that has none. Where there is a default, it has no entry, unless its command takes
     /// a lock.
-    fn add_new(
-        &mut self,
-        alloc: Global,
-        line: &'a Line,
-        schedule: &Schedule,
-    ) -> Result<(), AllocError> {
-        if self.default.is_some() && own_lock(alloc, line.command())?.is_none() {
+    fn add_new(&mut self, line: &'a Line, schedule: &Schedule) -> Done {
+        let alloc = self.sheet.alloc;
+        let has_default = self.default.is_some() && self.sheet.given_for(line).is_none();
+        if has_default && own_lock(alloc, line.command())?.is_none() {
             self.defaulted = self.defaulted.saturating_add(1);
-            return self.sheet.tell_line(alloc, line);
+            return self.sheet.tell_line(line);
         }
         if !self.is_draft {
             let (number, command) = (line.number(), shown(alloc, line.command())?);
             let note = format!(in alloc; "line {number} is new: {command}")?;
             self.sheet.told.note(note)?;
         }
-        self.sheet.add_new(alloc, line, schedule, self.default)
+        self.sheet.add_new(line, schedule, self.default)
     }
 
-    fn add_line(&mut self, alloc: Global, place: usize, line: &'a Line) -> Result<(), AllocError> {
+    fn add_line(&mut self, place: usize, line: &'a Line) -> Done {
+        let alloc = self.sheet.alloc;
         let number = line.number();
         match (line.when(), self.entry_at(place)) {
             (When::Reboot, entry) => {
                 self.sheet.told.warn(format!(in alloc;
                     "@reboot on line {number} of the crontab is left out: no plan has startup jobs"
                 )?)?;
-                self.sheet.leave_out(alloc, line, entry)
+                self.sheet.leave_out(line, entry)
             }
             (When::At(_), Some(old)) if old.is_left_out => {
                 let note = format!(in alloc; "line {number} is left out of the plan")?;
                 self.sheet.told.note(note)?;
-                self.sheet.leave_out(alloc, line, Some(old))
+                self.sheet.leave_out(line, Some(old))
             }
             (When::At(_), Some(old)) => {
                 if old.command() != line.command() {
@@ -131,14 +133,15 @@ impl<'a> Update<'a> {
                          of {command}"
                     )?)?;
                 }
-                self.sheet.add_kept(alloc, line, old)
+                self.sheet.add_kept(line, old)
             }
-            (When::At(schedule), None) => self.add_new(alloc, line, schedule),
+            (When::At(schedule), None) => self.add_new(line, schedule),
         }
     }
 
     /// Tells of the old entries that no line has.
-    fn tell_gone(&mut self, alloc: Global) -> Result<(), AllocError> {
+    fn tell_gone(&mut self) -> Done {
+        let alloc = self.sheet.alloc;
         for (i, entry) in self.bound.iter().enumerate() {
             if !self.pairs.iter().any(|pair| pair.entry == i) {
                 let command = shown(alloc, entry.command())?;
@@ -149,90 +152,82 @@ impl<'a> Update<'a> {
     }
 
     /// Adds an anacron job: as it was declared, or as a new one, unless there is a default.
-    fn add_job(
-        &mut self,
-        alloc: Global,
-        old: &Value,
-        job: &Job,
-        identifier: &str,
-    ) -> Result<(), AllocError> {
+    fn add_job(&mut self, old: &Value, job: &Job, identifier: &str) -> Done {
         let mut entries = items(old, "anacron").iter();
         let entry = entries.find(|entry| text_of(entry, "id") == Some(identifier));
         if entry.is_none() && self.default.is_some() {
             self.defaulted = self.defaulted.saturating_add(1);
-            return self.sheet.tell_job(alloc, job);
+            return self.sheet.tell_job(job);
         }
         if entry.is_none() && !self.is_draft {
-            tell_job(alloc, &mut self.sheet.told, identifier, "new")?;
+            self.tell_job(identifier, "new")?;
         }
-        self.sheet.add_job(alloc, job, identifier, entry)
+        self.sheet.add_job(job, identifier, entry)
     }
-}
 
-/// No entry is of that job, or none is left.
-fn tell_job(
-    alloc: Global,
-    told: &mut Told,
-    identifier: &str,
-    what: &str,
-) -> Result<(), AllocError> {
-    let identifier = shown(alloc, identifier.as_bytes())?;
-    told.note(format!(in alloc; "job {identifier} is {what}")?)
-}
-
-/// So many jobs have the default.
-fn tell_defaulted(alloc: Global, told: &mut Told, jobs: usize) -> Result<(), AllocError> {
-    match jobs {
-        0 => Ok(()),
-        1 => told.note(format!(in alloc; "1 job without an entry has the default")?),
-        _ => told.note(format!(in alloc; "{jobs} jobs without an entry have the default")?),
+    /// No entry is of that job, or none is left.
+    fn tell_job(&mut self, identifier: &str, what: &str) -> Done {
+        let alloc = self.sheet.alloc;
+        let identifier = shown(alloc, identifier.as_bytes())?;
+        self.sheet
+            .told
+            .note(format!(in alloc; "job {identifier} is {what}")?)
     }
-}
 
-/// A draft doesn't declare the hours that the anacrontab sets.
-fn tell_hours(alloc: Global, told: &mut Told, jobs: &Anacrontab) -> Result<(), AllocError> {
-    let mut settings = jobs.settings().iter();
-    if settings.any(|setting| setting.name() == b"START_HOURS_RANGE".as_slice()) {
-        return told.note(format!(in alloc;
-            "START_HOURS_RANGE is not declared, since Debian's anacron doesn't know it: all hours are"
-        )?);
-    }
-    Ok(())
-}
-
-/// Tells of the old entries of anacron jobs that are gone.
-fn tell_gone_jobs(
-    alloc: Global,
-    told: &mut Told,
-    jobs: &[Job],
-    old: &Value,
-) -> Result<(), AllocError> {
-    for entry in items(old, "anacron") {
-        if let Some(identifier) = text_of(entry, "id")
-            && !jobs
-                .iter()
-                .any(|job| job.identifier() == identifier.as_bytes())
-        {
-            tell_job(alloc, told, identifier, "gone")?;
+    /// Tells of the old entries of anacron jobs that are gone.
+    fn tell_gone_jobs(&mut self, jobs: &[Job], old: &Value) -> Done {
+        for entry in items(old, "anacron") {
+            if let Some(identifier) = text_of(entry, "id")
+                && !jobs
+                    .iter()
+                    .any(|job| job.identifier() == identifier.as_bytes())
+            {
+                self.tell_job(identifier, "gone")?;
+            }
         }
+        Ok(())
     }
-    Ok(())
+
+    /// Tells how many jobs have the default.
+    fn tell_defaulted(&mut self) -> Done {
+        let alloc = self.sheet.alloc;
+        let note = match self.defaulted {
+            0 => return Ok(()),
+            1 => format!(in alloc; "1 job without an entry has the default")?,
+            jobs => format!(in alloc; "{jobs} jobs without an entry have the default")?,
+        };
+        self.sheet.told.note(note)
+    }
+
+    /// A draft doesn't declare the hours that the anacrontab sets.
+    fn tell_hours(&mut self, jobs: &Anacrontab) -> Done {
+        let alloc = self.sheet.alloc;
+        let mut settings = jobs.settings().iter();
+        if settings.any(|setting| setting.name() == b"START_HOURS_RANGE".as_slice()) {
+            self.sheet.told.note(format!(in alloc;
+                "START_HOURS_RANGE is not declared, since Debian's anacron doesn't know it: all hours \
+                 are"
+            )?)?;
+        }
+        Ok(())
+    }
 }
 
 /// The members that stand before the lists, as they were declared.
 fn front(alloc: Global, old: &Value) -> Result<Object, AllocError> {
     let mut front = Object::outermost(alloc);
     let names = ["note", "capacity", "offset", "hours", "pass"];
-    front.add_members(alloc, old, names.as_slice())?;
+    front.add_members(old, names.as_slice())?;
     if let Some(default) = old.get("default") {
         let mut members = Object::new(alloc);
-        members.add_members(alloc, default, ["max", "weight", "note"].as_slice())?;
-        front.add("default", members.text(alloc)?.as_str())?;
+        members.add_members(default, ["max", "weight", "note"].as_slice())?;
+        front.add("default", members.text()?.as_str())?;
     }
     Ok(front)
 }
 
-/// The text of declarations, and what is told, where a new job has a longest time in minutes.
+/// The text of declarations, and what is told, where a new job has a longest time in minutes, or the
+/// one that is given for its line.
 pub(crate) fn updated_text<'a>(
     alloc: Global,
     table: &'a Crontab,
@@ -240,28 +235,27 @@ pub(crate) fn updated_text<'a>(
     places: &'a [Place],
     old: Old<'a>,
     max: u64,
+    given: &'a [Given],
+    remarks: &[u8],
 ) -> Result<(Vec<u8>, Told), AllocError> {
     let lines = table.lines();
-    let mut update = Update::of(alloc, lines, places, old, max)?;
+    let mut update = Update::of(alloc, lines, places, old, max, given)?;
+    update.sheet.told.remark(remarks)?;
     if old.is_draft {
-        tell_hours(alloc, &mut update.sheet.told, jobs)?;
+        update.tell_hours(jobs)?;
     }
     for (place, line) in lines.iter().enumerate() {
-        update.add_line(alloc, place, line)?;
+        update.add_line(place, line)?;
     }
-    update.tell_gone(alloc)?;
+    update.tell_gone()?;
     for job in jobs.lines() {
         // the identifiers of a table that was read are UTF-8
         if let Ok(identifier) = str::from_utf8(job.identifier()) {
-            update.add_job(alloc, old.value, job, identifier)?;
+            update.add_job(old.value, job, identifier)?;
         }
     }
-    let Update {
-        mut sheet,
-        defaulted,
-        ..
-    } = update;
-    tell_gone_jobs(alloc, &mut sheet.told, jobs.lines(), old.value)?;
-    tell_defaulted(alloc, &mut sheet.told, defaulted)?;
-    sheet.into_text(alloc, front(alloc, old.value)?)
+    update.tell_gone_jobs(jobs.lines(), old.value)?;
+    update.tell_defaulted()?;
+    let Update { sheet, .. } = update;
+    sheet.into_text(front(alloc, old.value)?)
 }

@@ -1,6 +1,5 @@
 //! The name that a name with a slip in it may be meant for.
 use crate::kind::{KINDS, Kind};
-use crate::meaning::Meaning;
 use std::alloc::{AllocError, Global};
 use strsim::levenshtein;
 
@@ -17,26 +16,18 @@ struct Guess {
     name: Option<&'static str>,
 }
 
-impl Guess {
-    /// The better one of this guess and that name. The name that is sought is in small letters.
-    fn or(self, alloc: Global, sought: &str, meaning: &Meaning) -> Result<Guess, AllocError> {
-        let name = meaning.name.to_ascii_lowercase(alloc)?;
-        let edits = levenshtein(alloc, sought, name.as_str())?;
-        if edits < self.edits {
-            return Ok(Guess {
-                edits,
-                name: Some(meaning.name),
-            });
-        }
-        Ok(self)
-    }
-}
-
-/// The better one of a guess and the names of a kind.
+/// The better one of a guess and the names of a kind. The name that is sought is in small letters.
 fn guess_among(alloc: Global, sought: &str, kind: Kind, first: Guess) -> Result<Guess, AllocError> {
     let mut guess = first;
     for meaning in kind.meanings() {
-        guess = guess.or(alloc, sought, meaning)?;
+        let name = meaning.name.to_ascii_lowercase(alloc)?;
+        let edits = levenshtein(alloc, sought, name.as_str())?;
+        if edits < guess.edits {
+            guess = Guess {
+                edits,
+                name: Some(meaning.name),
+            };
+        }
     }
     Ok(guess)
 }

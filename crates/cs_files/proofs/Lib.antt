@@ -1,3 +1,3 @@
 pub mod TroubleLemmas
 pub mod TurnLemmas
-pub mod WarnedLemmas
+pub mod AskedLemmas

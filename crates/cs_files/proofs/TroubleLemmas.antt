@@ -1,5 +1,5 @@
 -- What is answered of a fault.
-use Rattle.std.proofs.Common.{◌≡◌, ◌≢◌, ◌≤◌, ◌⊎◌, ◌∙◌, ℕ, Bool, true, false, List, [], ◌++◌, Option, Some, None, IfSome, Result, Ok, Err, length, nat_lt, option_map, inl, inr, refl, sym, ap, subst, arith}
+use Rattle.std.proofs.Common.{◌≡◌, ◌≤◌, ◌⊎◌, ◌∙◌, ℕ, Bool, true, false, List, [], ◌++◌, Option, Some, None, IfSome, Result, Ok, Err, length, nat_lt, option_map, inl, inr, refl, sym, ap, subst, arith}
 use Rattle.std.proofs.lemmas.Bool.{lt-ltb}
 use Rattle.clap.specs.Words.{Text}
 use Rattle.cs_table.specs.declared.limits.TheConstants.{MAX_TABLE}
@@ -22,11 +22,10 @@ use Rattle.cs_claims.specs.Content.{Content}
 use Rattle.cs_cert.specs.Denoted.{certificate_by}
 use Rattle.cs_claims.specs.declared.fault.CertFault.{CertFault}
 use Rattle.cs_claims.specs.declared.limits.TheConstants.{MAX_CERTIFICATE}
-use Rattle.cs_report.specs.Warning.{warnings as warnings_text}
 use Rattle.cs_io.specs.Files.{Failed, IsFresh, IsReadOut, IsTooLong, IsUpTo, Reads}
 use Rattle.cs_io.specs.declared.inputs.TheConstants.{MOST_READS}
 use Rattle.cs_files.specs.Fitting.{fitting}
-use Rattle.cs_files.specs.Reads.{FittingIn, TextIn, AndThen, Answered, IsRead, IsUnreadWhole, MeansIt, MeansTable, PlacesIn, ReadsAs, ReadsPlan, WithPlaces}
+use Rattle.cs_files.specs.Reads.{FittingIn, TextIn, AndThen, IsRead, IsUnreadWhole, MeansIt, MeansTable, PlacesIn, ReadsAs, ReadsPlan}
 use Rattle.cs_files.specs.Response.{Ending, complaint}
 use Rattle.cs_files.specs.Trouble.{CameTo, IsHonest, IsHonestOf, IsUnread, TellsPath, Trouble, ends, trouble, trouble_status, trouble_text}
 use Rattle.cs_files.specs.declared.fault.Fault.{Fault}
@@ -81,22 +80,6 @@ placed files path table text places (is, same) listed = by_file (files path) sam
     by_file : (whole : Option (List ℕ)) → IfSome whole (λ bytes. text ≡ bytes) → IfSome whole (λ bytes. places ≡ places_of bytes table)
     by_file None none = none
     by_file (Some bytes) e = subst (λ (b : List ℕ). places ≡ places_of b table) e listed
-
--- places that were read, where the files are as they were
-pub placed_on : (path : Text) (tables : Table × JobTable) (read places : List Place) (after before : List ℕ → Option (List ℕ))
-    → after ≡ before → places ≡ read → PlacesIn before path tables.0 read → PlacesIn after path tables.0 places
-placed_on path tables read places after before same is placed =
-    subst (λ (f : List ℕ → Option (List ℕ)). PlacesIn f path tables.0 places) (sym same) (subst (λ (l : List Place). PlacesIn before path tables.0 l) (sym is) placed)
-
--- what came of it, with these places
-pub with_places : {Y : Type 0} (files : List ℕ → Option (List ℕ)) (path : Text) (table : Table) (next : List Place → Failed → Failed → Result Y Trouble → Type 0) (before after : Failed) (places : List Place) (result : Result Y Fault)
-    → PlacesIn files path table places → CameTo (next places before after) result → CameTo (WithPlaces files path table next before after) result
-with_places files path table next before after places (Ok y) placed is = (places, placed, is)
-with_places files path table next before after places (Err e) placed is = by_trouble (trouble e) is
-  where
-    by_trouble : (o : Option Trouble) → IfSome o (λ t. next places before after (Err t)) → IfSome o (λ t. WithPlaces files path table next before after (Err t))
-    by_trouble None h = h
-    by_trouble (Some t) h = (places, placed, h)
 
 -- the bytes of declarations that were read are those of the file
 pub declared : (files left : List ℕ → Option (List ℕ)) (path : Text) (bytes : List ℕ) (places : List Place) (tables : Table × JobTable) (d : Entries) (plan : Declared) → IsFresh files left → IfSome (left path) (λ text. bytes ≡ text)
@@ -191,30 +174,6 @@ moved P w v f g same kept h = subst (λ (b : Failed). P v b) kept (subst (λ (o 
 
 -- ---- behind what is to be warned of
 
-pub answered : (tables : Failed → Failed → Result (Table × JobTable) Trouble → Type 0) (next : Table × JobTable → Failed → Failed → Result Ending Trouble → Type 0) (before after : Failed) (both : Table × JobTable) (w : List ℕ) (answer ending : Ending)
-    → tables before before (Ok both) → w ≡ warnings_text both.0 both.1 → next both before after (Ok answer) → ending ≡ record answer { err = w ++ answer.err } → Answered tables next before after ending
-answered tables next before after both w answer ending one warned other is =
-    inr (both, one, (Ok answer, other, is ∙ ap (λ v. record answer { err = v ++ answer.err }) warned))
-
-pub answered_fault : (tables : Failed → Failed → Result (Table × JobTable) Trouble → Type 0) (next : Table × JobTable → Failed → Failed → Result Ending Trouble → Type 0) (before after : Failed) (both : Table × JobTable) (w : List ℕ) (fault : Fault) (ending : Ending)
-    → tables before before (Ok both) → w ≡ warnings_text both.0 both.1 → IfSome (trouble fault) (λ t. next both before after (Err t)) → option_map (ends w) (trouble fault) ≡ Some ending → Answered tables next before after ending
-answered_fault tables next before after both w fault ending one warned other is = by_trouble (trouble fault) other is
-  where
-    by_trouble : (o : Option Trouble) → IfSome o (λ t. next both before after (Err t)) → option_map (ends w) o ≡ Some ending → Answered tables next before after ending
-    by_trouble None h e = absurd (cc)
-    by_trouble (Some t) h e = inr (both, one, (Err t, h, sym (some_is (ends w t) ending e) ∙ ap (λ v. ends v t) warned))
-
--- both tables were not read
-pub answered_stop : (tables : Failed → Failed → Result (Table × JobTable) Trouble → Type 0) (next : Table × JobTable → Failed → Failed → Result Ending Trouble → Type 0) (before after : Failed) (fault : Fault) (ending : Ending)
-    → IfSome (trouble fault) (λ t. tables before after (Err t)) → option_map (ends []) (trouble fault) ≡ Some ending → Answered tables next before after ending
-answered_stop tables next before after fault ending = by_trouble (trouble fault)
-  where
-    by_trouble : (o : Option Trouble) → IfSome o (λ t. tables before after (Err t)) → option_map (ends []) o ≡ Some ending → Answered tables next before after ending
-    by_trouble None h e = absurd (cc)
-    by_trouble (Some t) h e = inl (t, h, sym (some_is (ends [] t) ending e))
-
--- ---- the status of a failed device
-
 -- a fault that is told
 pub honest_fault : (failed : Failed) (reads : Reads) (w : List ℕ) (e : Fault) (r : Ending) → IsHonestOf failed reads e → option_map (ends w) (trouble e) ≡ Some r → IsHonest failed reads r
 honest_fault failed reads w e r = by_trouble (trouble e)
@@ -225,7 +184,3 @@ honest_fault failed reads w e r = by_trouble (trouble e)
         let same : ends w t ≡ r = some_is (ends w t) r is in
         let (path, unread, (reason, told)) = h (ap (λ (x : Ending). x.status) same ∙ six) in
         record { path = path; unread = unread; warnings = w; reason = reason; told = sym same ∙ ap (ends w) told }
-
--- and an answer that has another one
-pub honest_answer : (failed : Failed) (reads : Reads) (r s : Ending) (w : List ℕ) → r.status ≢ 6 → s ≡ record r { err = w } → IsHonest failed reads s
-honest_answer failed reads r s w other is = λ six. absurd (other (sym (ap (λ (x : Ending). x.status) is) ∙ six))

@@ -1,5 +1,5 @@
 -- How a call of the program ends: what it writes, and the status that it answers.
-use Rattle.std.specs.Prelude.{◌≡◌, ◌⊎◌, ℕ, Bool, true, List, Option, Some, None, codes}
+use Rattle.std.specs.Prelude.{◌≡◌, ◌⊎◌, ℕ, Bool, true, List, Option, codes}
 use Rattle.std.specs.Io.KnownBytes.{Appends}
 use Rattle.cs_files.specs.Response.{Ending}
 
@@ -33,13 +33,3 @@ Ends ending out-old out-new err-old err-new status =
 abbrev pub RunsOut : Sink → Sink → Sink → Sink → ℕ → Type 0
 RunsOut out-old out-new err-old err-new status = (status ≡ 5) × (out-new ≡ out-old)
     × Tries (codes "cronsafe: out of memory\n") err-old err-new
-
--- what is to be warned of, where there is anything, is written if it can be
-abbrev pub Warns : Option (List ℕ) → Sink → Sink → Type 0
-Warns None old new = new ≡ old
-Warns (Some warnings) old new = Tries warnings old new
-
--- memory ran out, which is told behind what is to be warned of
-abbrev pub RunsOutBehind : Option (List ℕ) → Sink → Sink → Sink → Sink → ℕ → Type 0
-RunsOutBehind warnings out-old out-new err-old err-new status =
-    (warned : Sink) × Warns warnings err-old warned × RunsOut out-old out-new warned err-new status

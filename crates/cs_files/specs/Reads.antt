@@ -1,6 +1,7 @@
 -- What is read file after file, until a fault ends the call.
-use Rattle.std.specs.Prelude.{◌≡◌, ◌⊎◌, ℕ, nat_le, not, ◌&&◌, ◌||◌, ◌==◌, length, Bool, true, false, List, [], ◌++◌, Option, Some, None, IfSome, Result}
+use Rattle.std.specs.Prelude.{◌≡◌, ◌⊎◌, ℕ, not, ◌&&◌, ◌==◌, length, Bool, true, false, List, Option, Some, None, IfSome, Result}
 use Rattle.std.specs.Prelude.{Ok, Err}
+use Rattle.std.specs.Char.{is_ascii_alphabetic}
 use Rattle.std.specs.List.{list_all, list_any}
 use Rattle.std.specs.Result.{result_map_both}
 use Rattle.clap.specs.Words.{Text}
@@ -17,11 +18,9 @@ use Rattle.cs_decl.specs.Join.{joined}
 use Rattle.cs_decl.specs.Meaning.{declared_by}
 use Rattle.cs_plan.specs.Plan.{Declared}
 use Rattle.cs_decl.specs.declared.entries.Entries.{Entries}
-use Rattle.cs_report.specs.Warning.{warnings as warnings_text}
 use Rattle.cs_io.specs.Files.{Failed, IsReadOut, IsTooLong, IsUpTo, Reads}
 use Rattle.cs_files.specs.Fitting.{fitting}
-use Rattle.cs_files.specs.Response.{Ending}
-use Rattle.cs_files.specs.Trouble.{InAnacrontab, InCrontab, InDeclarations, TellsPath, Trouble, ends}
+use Rattle.cs_files.specs.Trouble.{InAnacrontab, InCrontab, InDeclarations, TellsPath, Trouble}
 use Rattle.cs_files.specs.Trouble.{trouble}
 use Rattle.cs_files.specs.declared.fault.Fault.{Fault}
 
@@ -61,14 +60,10 @@ abbrev pub ReadsJobs : (List ℕ → Option (List ℕ)) → Option Text → Fail
 ReadsJobs files None = Gives (Ok no_jobs)
 ReadsJobs files (Some path) = ReadsAs files path MeansJobs InAnacrontab
 
--- an identifier of a job has a letter, as no day of a crontab's line does
-abbrev pub is_letter : ℕ → Bool
-is_letter b = (nat_le 65 b && nat_le b 90) || (nat_le 97 b && nat_le b 122)
-
--- there are jobs, each with such an identifier
+-- there are jobs, the identifier of each with a letter, as no day of a crontab's line has
 abbrev pub are_named : List JobLine → Bool
 are_named lines = not (length lines == 0)
-    && list_all (λ line. list_any is_letter line.identifier) lines
+    && list_all (λ line. list_any is_ascii_alphabetic line.identifier) lines
 
 -- the text is, or isn't, that of an anacrontab with such jobs
 abbrev pub HoldsJobs : List ℕ → Bool → Type 0
@@ -134,35 +129,6 @@ ReadsDeclared files tables = ReadsPlan (joined tables.0 tables.1) files
 abbrev pub ReadsFitting : (List ℕ → Option (List ℕ)) → List Place → Table × JobTable → Text → Failed
     → Failed → Result Declared Trouble → Type 0
 ReadsFitting files places tables = ReadsPlan (fitting places tables) files
-
--- what follows has the places of the table that the file at a path holds
-abbrev pub WithPlaces : {Y : Type 0} → (List ℕ → Option (List ℕ)) → Text → Table
-    → (List Place → Failed → Failed → Result Y Trouble → Type 0) → Failed → Failed
-    → Result Y Trouble → Type 0
-WithPlaces files path table next before after r =
-    (places : List Place) × PlacesIn files path table places × next places before after r
-
--- an answer, or what is answered of a fault
-abbrev pub ended : Result Ending Trouble → Ending
-ended (Ok answer) = answer
-ended (Err t) = ends [] t
-
--- an answer, of which what goes to standard error stands behind what is to be warned of; or what is
--- answered of a fault
-abbrev pub behind : List ℕ → Result Ending Trouble → Ending
-behind warnings (Ok answer) = record answer { err = warnings ++ answer.err }
-behind warnings (Err t) = ends warnings t
-
--- both tables are read, and then what follows comes behind what is to be warned of them
-abbrev pub Answered : (Failed → Failed → Result (Table × JobTable) Trouble → Type 0)
-    → (Table × JobTable → Failed → Failed → Result Ending Trouble → Type 0) → Failed → Failed
-    → Ending
-    → Type 0
-Answered tables next before after ending =
-    ((t : Trouble) × tables before after (Err t) × (ending ≡ ends [] t))
-    ⊎ ((both : Table × JobTable) × tables before before (Ok both)
-    × ((r : Result Ending Trouble) × next both before after r
-    × (ending ≡ behind (warnings_text both.0 both.1) r)))
 
 -- bytes mean the value that is given, or have the fault that is told
 abbrev pub MeansIt : {M F : Type 0} → (List ℕ → Result M F → Type 0) → (F → Trouble) → List ℕ

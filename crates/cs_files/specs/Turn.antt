@@ -14,21 +14,25 @@ some_path (Some path) = path ∷ []
 abbrev pub table_paths : Text → Option Text → List Text
 table_paths table anacrontab = table ∷ some_path anacrontab
 
+-- and then the declarations
+abbrev pub plan_paths : Text → Option Text → Text → List Text
+plan_paths table anacrontab declarations = table_paths table anacrontab ++ (declarations ∷ [])
+
 -- the files of a subcommand, in order of their turn
 abbrev pub replay_paths : AskedReplay → List Text
 replay_paths a = table_paths a.table a.anacrontab ++ (some_path a.declarations ++ (a.script ∷ []))
 
 abbrev pub check_paths : AskedCheck → List Text
-check_paths a = table_paths a.table a.anacrontab ++ (a.declarations ∷ a.certificate ∷ [])
+check_paths a = plan_paths a.table a.anacrontab a.declarations ++ (a.certificate ∷ [])
 
 abbrev pub judge_paths : AskedJudge → List Text
-judge_paths a = table_paths a.table a.anacrontab ++ (a.declarations ∷ [])
+judge_paths a = plan_paths a.table a.anacrontab a.declarations
 
 abbrev pub draft_paths : AskedDraft → List Text
-draft_paths a = table_paths a.table a.anacrontab ++ some_path a.update
+draft_paths a = table_paths a.table a.anacrontab ++ (some_path a.update ++ some_path a.maxes)
 
 abbrev pub learn_paths : AskedLearn → List Text
-learn_paths a = (a.table ∷ some_path a.update) ++ a.logs
+learn_paths a = a.table ∷ a.logs
 
 abbrev pub lint_paths : AskedLint → List Text
 lint_paths a = (table_paths a.table a.anacrontab ++ some_path a.declarations) ++ some_path a.zone

@@ -1,9 +1,8 @@
 //! How a call ends.
 ghost use Rattle.std.specs.Prelude.{◌≡◌, codes};
 ghost use Rattle.cs_files.specs.Response.{status_of};
-ghost use Rattle.cs_files.specs.Ending.{Ends, Sink, Tries, Warns, sink};
+ghost use Rattle.cs_files.specs.Ending.{Ends, Tries, sink};
 
-use crate::ran_out::RanOut;
 use crate::response::{Response, Status};
 use cs_io::{CannotWrite, Output};
 
@@ -44,18 +43,4 @@ pub fn run_out<E: Output>(err: &mut E) -> Status
 {
     tell(err, b"cronsafe: out of memory\n".as_slice());
     Status::NoMemory
-}
-
-/// The same, behind what is to be warned of.
-pub fn run_out_behind<E: Output>(ran_out: &RanOut, err: &mut E) -> Status
-    ensures told { (warned : Sink)
-        × Warns ran_out.now.warnings (sink (E.contents err.old) (E.failed err.old)) warned
-        × Tries (codes "cronsafe: out of memory\n") warned
-        (sink (E.contents err.new) (E.failed err.new)) }
-    ensures status { status_of result ≡ 5 }
-{
-    if let Some(warnings) = &ran_out.warnings {
-        tell(err, warnings.as_slice());
-    }
-    run_out(err)
 }

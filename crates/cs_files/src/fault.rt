@@ -1,5 +1,5 @@
 //! Why a call ends before all of it was done, and what is answered of it.
-ghost use Rattle.std.specs.Prelude.{◌≡◌, ◌++◌, IfErr, IfOk, IfSome, OnOk, Some, codes, decimal};
+ghost use Rattle.std.specs.Prelude.{◌≡◌, ◌++◌, IfOk, IfSome, OnOk, Some, codes, decimal};
 ghost use Rattle.std.specs.Prelude.{option_map};
 ghost use Rattle.cs_args.specs.Words.{word_fault};
 ghost use Rattle.cs_io.specs.Reasons.{reason_text};
@@ -11,11 +11,10 @@ ghost use Rattle.cs_files.specs.Trouble.{trouble_status, word_hint};
 ghost use Rattle.cs_files.specs.declared.fault.Fault.TheVariants.{Anacrontab, Crontab, Declarations};
 ghost use Rattle.cs_files.specs.declared.fault.Fault.TheVariants.{OutOfMemory, Words};
 
-use crate::ran_out::RanOut;
 use crate::response::{Response, Status};
 use cs_anacrontab::AnacronFault;
 use cs_args::WordFault;
-use cs_civil::{Bytes, push_number};
+use cs_civil::push_number;
 use cs_claims::CertError;
 use cs_crontab::TableFault as CrontabFault;
 use cs_io::Reason;
@@ -308,19 +307,5 @@ impl Fault<'_> {
     {
         let text = self.text(alloc)?;
         Response::fault(alloc, self.status(), warnings, text.as_slice())
-    }
-
-    /// The same, where the warnings are kept for the case that memory runs out.
-    pub fn response_behind(&self, alloc: Global, warnings: Bytes) -> Result<Response, RanOut>
-        ensures told { IfOk result
-            (λ r. option_map (ends warnings) (trouble self.now) ≡ Some r) }
-        ensures warned { IfErr result (λ e. e.warnings ≡ Some warnings) }
-    {
-        match self.response(alloc, warnings.as_slice()) {
-            Ok(response) => Ok(response),
-            Err(AllocError) => Err(RanOut {
-                warnings: Some(warnings),
-            }),
-        }
     }
 }

@@ -1,12 +1,13 @@
 //! The files of a call, read one after the other.
 ghost use Rattle.std.specs.Prelude.{◌≡◌, ◌≤◌, IfErr, IfOk, IfSome, OnOk, length, option_map};
 ghost use Rattle.std.specs.List.{list_all, list_any};
+ghost use Rattle.std.specs.Char.{is_ascii_alphabetic};
 ghost use Rattle.cs_table.specs.declared.limits.TheConstants.{MAX_TABLE};
 ghost use Rattle.cs_anacrontab.specs.Faults.{Means as MeansJobs};
 ghost use Rattle.cs_crontab.specs.Faults.{IsCrontab};
 ghost use Rattle.cs_io.specs.Files.{AreReadInTurn, IsFresh, IsReadAlone};
 ghost use Rattle.cs_files.specs.Reads.{HoldsJobs, IsRead, IsUnreadAt, IsUnreadWhole, MeansIt};
-ghost use Rattle.cs_files.specs.Reads.{FittingIn, MeansTable, PlacesIn, ReadsAs, TextIn, are_named, is_letter};
+ghost use Rattle.cs_files.specs.Reads.{FittingIn, MeansTable, ReadsAs, TextIn, are_named};
 ghost use Rattle.cs_files.specs.Reads.{ReadsDeclared, ReadsFitting, ReadsJobs, ReadsTables};
 ghost use Rattle.cs_files.specs.Reads.{without_rest};
 ghost use Rattle.cs_files.specs.Turn.{some_path, table_paths};
@@ -16,11 +17,10 @@ ghost use Rattle.cs_files.specs.Trouble.{IsOfContent};
 use crate::fault::Fault;
 use crate::parts::join_placed;
 use cs_anacrontab::{AnacronFault, Anacrontab, Job, read_anacrontab};
-use cs_civil::Sequence;
 use cs_crontab::{Crontab, read_crontab};
 use cs_decl::{join, read_declarations};
 use cs_io::{Inputs, ReadFault, read_up_to, read_whole};
-use cs_place::{Place, read_places};
+use cs_place::Place;
 use cs_plan::Plan;
 use cs_table::MAX_TABLE;
 use std::alloc::{AllocError, Global};
@@ -71,28 +71,16 @@ pub fn all_bytes_at<'a, I: Inputs>(
     }
 }
 
-fn is_letter(byte: u8) -> bool
-    ensures { result ≡ is_letter byte }
-{
-    (b'A' <= byte && byte <= b'Z') || (b'a' <= byte && byte <= b'z')
-}
-
 fn has_letter(text: &[u8]) -> bool
-    ensures { result ≡ list_any is_letter text.now }
+    ensures { result ≡ list_any is_ascii_alphabetic text.now }
 {
-    text.iter().any(|byte| is_letter(*byte))
-}
-
-fn is_named(job: &Job) -> bool
-    ensures { result ≡ list_any is_letter job.now.identifier }
-{
-    has_letter(job.identifier())
+    text.iter().any(|byte| byte.is_ascii_alphabetic())
 }
 
 fn all_are_named(jobs: &[Job]) -> bool
-    ensures { result ≡ list_all (λ line. list_any is_letter line.identifier) jobs.now }
+    ensures { result ≡ list_all (λ line. list_any is_ascii_alphabetic line.identifier) jobs.now }
 {
-    jobs.iter().all(|job| is_named(job))
+    jobs.iter().all(|job| has_letter(job.identifier()))
 }
 
 /// Whether there are jobs, and each identifier has a letter.
@@ -221,57 +209,6 @@ pub fn read_tables_and_text<'a, I: Inputs>(
     Ok(((table, jobs), text))
 }
 
-/// Both tables, and the places of the crontab's lines, which a gathered table has.
-pub fn read_placed_tables<'a, I: Inputs>(
-    alloc: Global,
-    inputs: &mut I,
-    table: &'a str,
-    anacrontab: Option<&'a str>,
-) -> Result<((Crontab, Anacrontab), Sequence<Place>), Fault<'a>>
-    ensures step { IsFresh (I.whole inputs.old) (I.left inputs.old)
-        → CameTo (ReadsTables (I.whole inputs.old) table.now
-        (option_map (λ path. path.now) anacrontab.entry)
-        (I.failed inputs.old) (I.failed inputs.new)) (without_rest result) }
-    ensures places { IsFresh (I.whole inputs.old) (I.left inputs.old)
-        → IfOk result (λ found. PlacesIn (I.whole inputs.old) table.now found.0.0 found.1) }
-    ensures works { OnOk result (I.failed inputs.new ≡ I.failed inputs.old) }
-    ensures whole { I.whole inputs.new ≡ I.whole inputs.old }
-    ensures fresh { OnOk result (IsFresh (I.whole inputs.old) (I.left inputs.old)
-        → IsFresh (I.whole inputs.new) (I.left inputs.new)) }
-    ensures status { IfErr result (IsHonestOf (I.failed inputs.new) (I.reads inputs.new)) }
-    ensures turn { AreReadInTurn
-        (table_paths table.now (option_map (λ path. path.now) anacrontab.entry))
-        (I.reads inputs.old) (I.reads inputs.new) }
-{
-    let (tables, text) = read_tables_and_text(alloc, inputs, table, anacrontab)?;
-    let places = read_places(alloc, text.as_slice(), &tables.0)?;
-    Ok((tables, places))
-}
-
-/// Both tables.
-pub fn read_tables<'a, I: Inputs>(
-    alloc: Global,
-    inputs: &mut I,
-    table: &'a str,
-    anacrontab: Option<&'a str>,
-) -> Result<(Crontab, Anacrontab), Fault<'a>>
-    ensures step { IsFresh (I.whole inputs.old) (I.left inputs.old)
-        → CameTo (ReadsTables (I.whole inputs.old) table.now
-        (option_map (λ path. path.now) anacrontab.entry)
-        (I.failed inputs.old) (I.failed inputs.new)) result }
-    ensures works { OnOk result (I.failed inputs.new ≡ I.failed inputs.old) }
-    ensures whole { I.whole inputs.new ≡ I.whole inputs.old }
-    ensures fresh { OnOk result (IsFresh (I.whole inputs.old) (I.left inputs.old)
-        → IsFresh (I.whole inputs.new) (I.left inputs.new)) }
-    ensures status { IfErr result (IsHonestOf (I.failed inputs.new) (I.reads inputs.new)) }
-    ensures turn { AreReadInTurn
-        (table_paths table.now (option_map (λ path. path.now) anacrontab.entry))
-        (I.reads inputs.old) (I.reads inputs.new) }
-{
-    let (tables, _) = read_tables_and_text(alloc, inputs, table, anacrontab)?;
-    Ok(tables)
-}
-
 /// The plan of both tables as the declarations at a path have it.
 pub fn declared_plan_from<'a, I: Inputs>(
     alloc: Global,
@@ -322,27 +259,4 @@ pub fn placed_plan_and_text<'a, I: Inputs>(
     let declarations = read_declarations(alloc, bytes.as_slice())?;
     let plan = join_placed(alloc, table, jobs, places, declarations)?;
     Ok((plan, bytes))
-}
-
-/// The same without the bytes.
-pub fn placed_plan_from<'a, I: Inputs>(
-    alloc: Global,
-    inputs: &mut I,
-    path: &'a str,
-    table: Crontab,
-    jobs: Anacrontab,
-    places: &[Place],
-) -> Result<Plan, Fault<'a>>
-    ensures step { IsFresh (I.whole inputs.old) (I.left inputs.old)
-        → CameTo (ReadsFitting (I.whole inputs.old) places.now (table, jobs) path.now
-        (I.failed inputs.old) (I.failed inputs.new)) result }
-    ensures works { OnOk result (I.failed inputs.new ≡ I.failed inputs.old) }
-    ensures whole { I.whole inputs.new ≡ I.whole inputs.old }
-    ensures fresh { OnOk result (IsFresh (I.whole inputs.old) (I.left inputs.old)
-        → IsFresh (I.whole inputs.new) (I.left inputs.new)) }
-    ensures status { IfErr result (IsHonestOf (I.failed inputs.new) (I.reads inputs.new)) }
-    ensures alone { IsReadAlone path.now (I.reads inputs.old) (I.reads inputs.new) }
-{
-    let (plan, _) = placed_plan_and_text(alloc, inputs, path, table, jobs, places)?;
-    Ok(plan)
 }

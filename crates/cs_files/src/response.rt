@@ -1,9 +1,8 @@
 //! What a call of the program writes, and the status that it ends with.
-ghost use Rattle.std.specs.Prelude.{◌≡◌, ◌++◌, [], IfErr, IfOk, Some, if◌then◌else◌};
+ghost use Rattle.std.specs.Prelude.{◌≡◌, ◌++◌, [], IfOk, if◌then◌else◌};
 ghost use Rattle.cs_args.specs.Version.{version_text};
 ghost use Rattle.cs_files.specs.Response.{complaint, done, status_of};
 
-use crate::ran_out::{RanOut, text_behind};
 use cs_args::version_text;
 use cs_civil::Bytes;
 use std::alloc::{AllocError, Global};
@@ -149,21 +148,6 @@ impl Response {
             ends: status,
             shown: Bytes::from_vec(text),
             told: notes,
-        }
-    }
-
-    /// The same, behind what is to be warned of. If memory runs out, the warnings are kept.
-    pub fn behind(self, warnings: Bytes) -> Result<Response, RanOut>
-        ensures told { IfOk result (λ r. r ≡ record self { err = warnings ++ self.err }) }
-        ensures warned { IfErr result (λ e. e.warnings ≡ Some warnings) }
-    {
-        match text_behind(warnings, self.told.as_slice()) {
-            Ok(told) => Ok(Response {
-                ends: self.ends,
-                shown: self.shown,
-                told,
-            }),
-            Err(ran_out) => Err(ran_out),
         }
     }
 

@@ -1,5 +1,5 @@
 -- What is found below a root folder.
-use Rattle.std.proofs.Common.{◌≡◌, ◌⊎◌, ◌∙◌, ◌++◌, ◌∷◌, All, Contains, List, [], OnErr, Option, Some, None, IfSome, Result, Ok, Err, ap, codes, inl, inr, subst, sym}
+use Rattle.std.proofs.Common.{◌≡◌, ◌⊎◌, ◌∙◌, ◌++◌, ◌∷◌, All, Contains, List, [], Option, Some, None, IfSome, ap, codes, inl, inr, subst, sym}
 use Rattle.std.proofs.lemmas.List.Elements.{All-push, Contains-append_left, Contains-push}
 use Rattle.clap.specs.Words.{Text}
 use Rattle.cs_io.specs.Folders.{Tree}
@@ -9,11 +9,6 @@ use Rattle.cs_gather.specs.Tables.{Given, IsBelow, IsFile, IsFileAt, IsIn, IsRea
 use Rattle.cs_gather.specs.Listing.{FindsAllOn, HasName, given_in, place_of}
 use Rattle.cs_gather.specs.declared.below.Shelf.{Shelf}
 use Rattle.cs_gather.specs.declared.below.Shelf.TheVariants.{CronD, Crontabs}
-
--- why nothing is answered, from what comes before it
-pub on_err_so : {T E : Type 0} (P Q : Type 0) (r : Result T E) → (P → Q) → OnErr r P → OnErr r Q
-on_err_so P Q (Ok x) so h = h
-on_err_so P Q (Err e) so h = so h
 
 -- one more of which it holds, or none
 pub maybe_more : {X : Type 0} (P : X → Type 0) (old new : List X) (x : X) → P x → (new ≡ old) ⊎ (new ≡ old ++ x ∷ []) → All P old → All P new

@@ -7,7 +7,7 @@ use Rattle.cs_table.specs.Wrong.{whole}
 use Rattle.cs_table.proofs.Spans.{parts_joined, front_passes, after_stops}
 use Rattle.cs_crontab.specs.declared.fault.LineFault.TheVariants.{TooLong, TooManyJobs}
 use Rattle.cs_system.specs.declared.fault.SystemFault.TheVariants.{Line}
-use Rattle.cs_gather.specs.Gathered.{GatheredCommand}
+use Rattle.cs_gather.specs.declared.line.Gathered.{Gathered}
 use Rattle.cs_gather.specs.Gather.{IsLineAt, IsOverflow}
 use Rattle.cs_gather.proofs.Between.{parts_at}
 
@@ -47,10 +47,10 @@ module _ (text rest line behind : List ℕ) (number : ℕ) (walked : IsWalked te
         size_is = refl;
       }
 
-  pub too_long : (room : ℕ) (commands : List GatheredCommand) → IsOverflow text room commands (as_error (found_at (number + 1) line (whole (Line TooLong) (after is_blank line))))
+  pub too_long : (room : ℕ) (commands : List Gathered) → IsOverflow text room commands (as_error (found_at (number + 1) line (whole (Line TooLong) (after is_blank line))))
   too_long room commands = (place, inl refl)
 
-  pub too_many : (room : ℕ) (commands : List GatheredCommand) (command : GatheredCommand) → room < length commands → command ≡ get_or commands room command → command.number ≡ number + 1
+  pub too_many : (room : ℕ) (commands : List Gathered) (command : Gathered) → room < length commands → command ≡ get_or commands room command → command.number ≡ number + 1
       → IsOverflow text room commands (as_error (found_at (number + 1) line (whole (Line TooManyJobs) (after is_blank line))))
   too_many room commands command below is same =
       let p = parts_at commands room command below is in

@@ -1,62 +1,83 @@
 -- Tables of a machine as one user's table: what each adds, and what the text says in the end.
-use Rattle.std.specs.Prelude.{◌≡◌, ℕ, ◌+◌, ◌-◌, ◌⊎◌, true, List, [], ◌∷◌, ◌++◌, length, map}
+use Rattle.std.specs.Prelude.{◌≡◌, ◌<◌, ℕ, ◌+◌, ◌-◌, ◌⊎◌, true, List, [], ◌∷◌, ◌++◌, Option, Some, None, length, option_map, ⊤}
 use Rattle.std.specs.List.{list_all, AllZip}
+use Rattle.clap.specs.Words.{Text}
+use Rattle.cs_schedule.specs.Numbers.{has}
+use Rattle.cs_schedule.specs.Times.{Choice}
 use Rattle.cs_table.specs.declared.fault.TableFault.{TableFault}
 use Rattle.cs_table.specs.declared.fault.TableFault.TheVariants.{At, OutOfMemory}
 use Rattle.cs_table.specs.Text.{lines_of, is_blank, StopsAt}
 use Rattle.cs_crontab.specs.declared.fault.LineFault.{LineFault}
 use Rattle.cs_crontab.specs.declared.fault.LineFault.TheVariants.{TooLong, TooManyJobs}
 use Rattle.cs_crontab.specs.declared.limits.TheConstants.{MAX_COMMANDS}
-use Rattle.cs_crontab.specs.Crontab.{CommandLine, Table}
+use Rattle.cs_crontab.specs.declared.table.When.{When}
+use Rattle.cs_crontab.specs.declared.table.When.TheVariants as when
+use Rattle.cs_crontab.specs.Crontab.{CommandLine, Table as Crontab}
 use Rattle.cs_crontab.specs.Faults as users
 use Rattle.cs_crontab.specs.Faults.{IsCrontab}
 use Rattle.cs_system.specs.declared.fault.SystemFault.{SystemFault}
 use Rattle.cs_system.specs.declared.fault.SystemFault.TheVariants.{Line}
-use Rattle.cs_system.specs.System.{Table as SystemTable}
 use Rattle.cs_system.specs.Faults.{IsSystemCrontab, IsFaultOf}
-use Rattle.cs_gather.specs.Gathered.{GatheredCommand, comments, of_system, of_user}
-use Rattle.cs_gather.specs.declared.programs.Parts.{Parts}
 use Rattle.cs_place.specs.Mark.{mark}
+use Rattle.cs_place.specs.Places.{place_of, places_of}
+use Rattle.cs_place.specs.declared.places.Place.{Place}
+use Rattle.cs_gather.specs.declared.line.Gathered.{Gathered}
+use Rattle.cs_gather.specs.declared.table.Table.{Table}
+use Rattle.cs_gather.specs.declared.table.Table.TheVariants.{System, User}
 
 -- ---- what the text says
 
--- These comments stand at the front of lines.
-abbrev pub BeginWith : List (List ℕ) → List (List ℕ) → Type 0
-BeginWith lines comments = (behind : List (List ℕ)) × (lines ≡ comments ++ behind)
+-- two fields have the same numbers, and both begin with `*` or neither does
+abbrev pub AreSame : Choice → Choice → Type 0
+AreSame a b = (a.star ≡ b.star) × ((n : ℕ) → n < 64 → has a.numbers n ≡ has b.numbers n)
 
--- The lines above that number are these comments.
-abbrev pub AreAbove : List (List ℕ) → ℕ → List (List ℕ) → Type 0
-AreAbove lines number comments =
-    (before from : List (List ℕ)) × (lines ≡ before ++ from) × BeginWith from comments
-    × (number ≡ length before + length comments + 1)
+-- two commands start at the same times
+abbrev pub IsSameWhen : When → When → Type 0
+IsSameWhen (when.At a) (when.At b) = AreSame a.minute b.minute × (AreSame a.hour b.hour
+    × (AreSame a.dom b.dom × (AreSame a.month b.month × AreSame a.dow b.dow)))
+IsSameWhen when.Reboot when.Reboot = ⊤
+IsSameWhen a b = ⊥
 
--- A line of the text has the same time and command, and its place and then its parts stand above it.
-pub record IsGathered (lines : List (List ℕ)) (line : CommandLine) (gathered : GatheredCommand)
+-- what the comment of a place says: `NAME:LINE`, and a user
+abbrev pub told_by : Place → List ℕ × List ℕ
+told_by place = (place.origin, place.user)
+
+-- a line has the same times and command, and its place is that of the table and the line that the
+-- command comes from, with its user
+pub record IsGathered (places : List Place) (line : CommandLine) (gathered : Gathered)
     : Type 0 where
-  pub when : line.when ≡ gathered.when
+  pub when : IsSameWhen line.when gathered.when
   pub command : line.command ≡ gathered.command
-  pub place : AreAbove lines line.number (comments gathered)
+  pub place : option_map told_by (place_of places line.number)
+      ≡ Some (gathered.origin, gathered.user)
 
 -- The text is written as a crontab with this one setting, whose commands are these, in this order.
-pub record Gathers (text : List ℕ) (commands : List GatheredCommand) : Type 0 where
-  pub table : Table
+pub record Gathers (text : List ℕ) (commands : List Gathered) : Type 0 where
+  pub table : Crontab
   pub written : IsCrontab text table
   pub marked : table.settings ≡ mark ∷ []
-  pub same : AllZip (IsGathered (lines_of text)) table.lines commands
+  pub same : AllZip (IsGathered (places_of text table)) table.lines commands
 
--- ---- what a table adds
+-- ---- what a table says
 
-abbrev pub AddsSystem : List ℕ → List ℕ → List Parts → List GatheredCommand
-    → List GatheredCommand → Type 0
-AddsSystem name text parts old more = (table : SystemTable) × IsSystemCrontab text table
-    × (more ≡ old ++ map (of_system name parts) table.lines)
+-- the text is written as this table, which is a user's or has lines that name users
+abbrev pub Denotes : Option Text → List ℕ → Table → Type 0
+Denotes None text (System table) = IsSystemCrontab text table
+Denotes (Some user) text (User table) = IsCrontab text table
+Denotes user text other = ⊥
 
-abbrev pub AddsUser : List ℕ → List ℕ → List ℕ → List Parts → List GatheredCommand
-    → List GatheredCommand → Type 0
-AddsUser name user text parts old more = (table : Table) × IsCrontab text table
-    × (more ≡ old ++ map (of_user name user parts) table.lines)
+-- a fault of a user's table, as one of a system table
+abbrev pub as_system : TableFault LineFault → TableFault SystemFault
+as_system OutOfMemory = OutOfMemory
+as_system (At line column size fault) = At line column size (Line fault)
 
--- ---- why a table is refused
+-- or it has this first fault
+abbrev pub HasFault : Option Text → List ℕ → TableFault SystemFault → Type 0
+HasFault None text fault = IsFaultOf text fault
+HasFault (Some user) text fault =
+    (inner : TableFault LineFault) × users.IsFaultOf text inner × (fault ≡ as_system inner)
+
+-- ---- what is too much
 
 -- The place is a line of the text without its leading blanks.
 pub record IsLineAt (text : List ℕ) (line column size : ℕ) : Type 0 where
@@ -74,36 +95,17 @@ pub record IsLineAt (text : List ℕ) (line column size : ℕ) : Type 0 where
   pub size_is : size ≡ length content
 
 -- The first command for which there is no room stands on that line.
-abbrev pub IsOneTooMany : ℕ → List GatheredCommand → ℕ → Type 0
+abbrev pub IsOneTooMany : ℕ → List Gathered → ℕ → Type 0
 IsOneTooMany room commands line =
-    (before : List GatheredCommand) × (command : GatheredCommand) × (later : List GatheredCommand)
+    (before : List Gathered) × (command : Gathered) × (later : List Gathered)
     × (commands ≡ before ++ (command ∷ later)) × (length before ≡ room) × (line ≡ command.number)
 
 -- At a line of the table there are too many commands, or the text or a comment grows too long.
-abbrev pub IsOverflow : List ℕ → ℕ → List GatheredCommand → TableFault SystemFault → Type 0
+abbrev pub IsOverflow : List ℕ → ℕ → List Gathered → TableFault SystemFault → Type 0
 IsOverflow text room commands OutOfMemory = Unit {0}
 IsOverflow text room commands (At line column size fault) = IsLineAt text line column size
     × ((fault ≡ Line TooLong) ⊎ ((fault ≡ Line TooManyJobs) × IsOneTooMany room commands line))
 
--- a fault of a user's table, as one of a system table
-abbrev pub as_system : TableFault LineFault → TableFault SystemFault
-as_system OutOfMemory = OutOfMemory
-as_system (At line column size fault) = At line column size (Line fault)
-
 -- how many commands may follow the old ones
-abbrev pub room_behind : List GatheredCommand → ℕ
+abbrev pub room_behind : List Gathered → ℕ
 room_behind old = MAX_COMMANDS - length old
-
--- The table has this first fault of its own, or it has none, and too much to add.
-abbrev pub IsSystemFault : List ℕ → List ℕ → List Parts → List GatheredCommand
-    → TableFault SystemFault → Type 0
-IsSystemFault name text parts old fault = IsFaultOf text fault
-    ⊎ ((table : SystemTable) × IsSystemCrontab text table
-    × IsOverflow text (room_behind old) (map (of_system name parts) table.lines) fault)
-
-abbrev pub IsUserFault : List ℕ → List ℕ → List ℕ → List Parts → List GatheredCommand
-    → TableFault SystemFault → Type 0
-IsUserFault name user text parts old fault =
-    ((inner : TableFault LineFault) × users.IsFaultOf text inner × (fault ≡ as_system inner))
-    ⊎ ((table : Table) × IsCrontab text table
-    × IsOverflow text (room_behind old) (map (of_user name user parts) table.lines) fault)

@@ -1,4 +1,3 @@
-pub mod Normal
 pub mod Gathered
 pub mod Gather
 pub mod Answer

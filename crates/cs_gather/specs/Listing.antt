@@ -1,6 +1,5 @@
 -- What is found below a root folder, folder by folder.
-use Rattle.std.specs.Prelude.{◌≡◌, ◌++◌, ℕ, true, Contains, List, Option, Some, None, codes, option_map}
-use Rattle.std.specs.Borrow.{Bor}
+use Rattle.std.specs.Prelude.{◌≡◌, ◌++◌, ℕ, true, Contains, List, Option, Some, None, codes}
 use Rattle.std.specs.Prelude.{string_bytes}
 use Rattle.clap.specs.Words.{Text}
 use Rattle.cs_io.specs.Files.{AreReadInTurn, Failed, Reads}
@@ -38,14 +37,6 @@ abbrev pub FindsAllOn : Tree → Text → Shelf → List Given → Type 0
 FindsAllOn tree front shelf found = (name : Text) → IsIn tree (front ++ place_of shelf) name
     → FindsNamed tree (front ++ place_of shelf) shelf found name
 
--- a command with the number of its line, as the code has it
-abbrev pub numbered : ℕ × Bor Text → ℕ × Text
-numbered c = (c.0, c.1.now)
-
--- a text that is asked, as the code has it
-abbrev pub asked : Option (Bor Text) → Option Text
-asked text = option_map (λ t. t.now) text
-
 -- all of these are among those
 abbrev pub AreAmong : List Given → List Given → Type 0
 AreAmong some all = (given : Given) → Contains some given → Contains all given
@@ -55,15 +46,16 @@ abbrev pub IsUnlisted : Failed → Reads → Unlisted → Type 0
 IsUnlisted failed reads (CannotRead path reason) = IsUnread (string_bytes path) failed reads
 IsUnlisted failed reads OutOfMemory = Unit {0}
 
--- a read of that path has failed
-abbrev pub HasFailed : Failed → Unlisted → Type 0
-HasFailed failed (CannotRead path reason) = failed (string_bytes path) ≡ true
-HasFailed failed OutOfMemory = Unit {0}
-
 -- why a call ends at a table, unless it is want of memory
 abbrev pub unlisted_trouble : Unlisted → Option Trouble
 unlisted_trouble (CannotRead path reason) = Some (Unread (string_bytes path) reason)
 unlisted_trouble OutOfMemory = None
+
+-- no file was read: what files hold, what is left of each, and which were read stays
+abbrev pub NoneRead : {A : Type 0} → (A → List ℕ → Option (List ℕ))
+    → (A → List ℕ → Option (List ℕ)) → (A → Reads) → A → A → Type 0
+NoneRead whole left reads old new =
+    (whole new ≡ whole old) × (left new ≡ left old) × (reads new ≡ reads old)
 
 -- some paths were read, one after the other
 abbrev pub AreSomeRead : Reads → Reads → Type 0

@@ -44,11 +44,6 @@ abbrev pub IsFront : Text → Text → Type 0
 IsFront root front = (root ≡ front ++ (47 ∷ [])) ⊎ ((root ≡ front)
     ⊎ ((root ≡ codes "-") × (front ≡ codes "./-")))
 
--- and so where a root folder is asked
-abbrev pub IsFrontAsked : Option Text → Option Text → Type 0
-IsFrontAsked None front = front ≡ None
-IsFrontAsked (Some root) front = (text : Text) × IsFront root text × (front ≡ Some text)
-
 -- the name of a user's table: a text without a dot at its front
 abbrev pub IsUserName : Text → Type 0
 IsUserName name = IsUtf8 name × (starts_with nat_eq name (46 ∷ []) ≡ false)

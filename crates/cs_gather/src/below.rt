@@ -1,10 +1,9 @@
 //! The tables below a root folder.
-ghost use Rattle.std.specs.Prelude.{◌≡◌, ◌⊎◌, ◌++◌, [], ◌∷◌, All, Contains, IfErr, IfOk, IfSome, OnErr, OnOk, Some, codes, option_map, string_bytes, true};
-ghost use Rattle.std.specs.Str.{IsUtf8};
+ghost use Rattle.std.specs.Prelude.{◌≡◌, ◌⊎◌, ◌++◌, [], ◌∷◌, All, Contains, IfErr, IfOk, IfSome, OnErr, OnOk, Some, codes, option_map, string_bytes};
 ghost use Rattle.cs_files.specs.Trouble.{ends};
-ghost use Rattle.cs_place.specs.Places.{is_part_name};
 ghost use Rattle.cs_gather.specs.Tables.{IsBelow, IsFile, IsFileAt, system_table};
-ghost use Rattle.cs_gather.specs.Listing.{AreAmong, FindsAllOn, FindsNamed, HasFailed, HasName, IsUnlisted, given_in, place_of, unlisted_trouble};
+ghost use Rattle.cs_gather.specs.Listing.{AreAmong, FindsAllOn, FindsNamed, HasName, IsUnlisted, NoneRead};
+ghost use Rattle.cs_gather.specs.Listing.{given_in, place_of, unlisted_trouble};
 
 use crate::given::Given;
 use crate::note::push_passed_over;
@@ -59,30 +58,6 @@ impl Unlisted {
     }
 }
 
-/// A name as text, or why it is none.
-fn text_of(name: &[u8]) -> Result<&str, &'static str>
-    ensures name { IfOk result (λ text. text.now ≡ name.now) }
-    ensures is { OnOk result (IsUtf8 name.now) }
-    ensures refused { OnErr result (¬ (IsUtf8 name.now)) }
-{
-    match str::from_utf8(name) {
-        Ok(text) => Ok(text),
-        Err(_) => Err("its name isn't UTF-8"),
-    }
-}
-
-/// The name of a table in a folder of system tables, or of a part, or why it is none.
-pub(crate) fn table_name(name: &[u8]) -> Result<&str, &'static str>
-    ensures name { IfOk result (λ text. text.now ≡ name.now) }
-    ensures signs { OnOk result (is_part_name name.now ≡ true) }
-    ensures refused { OnErr result (¬ (is_part_name name.now ≡ true)) }
-{
-    if is_part_name(name) {
-        return text_of(name);
-    }
-    Err("its name holds other signs than letters, digits, _ and -")
-}
-
 /// A folder of tables below a root folder.
 #[derive(Clone, Copy)]
 pub(crate) enum Shelf {
@@ -103,18 +78,25 @@ impl Shelf {
         }
     }
 
-    /// The name of a table in it, or why nothing of this name is gathered.
-    fn name(self, name: &[u8]) -> Result<&str, &'static str>
+    /// The name of a table in it, or why nothing of this name is gathered. The names of parts are
+    /// as those of system tables.
+    pub(crate) fn name(self, name: &[u8]) -> Result<&str, &'static str>
         ensures name { IfOk result (λ text. text.now ≡ name.now) }
         ensures signs { OnOk result (HasName self name.now) }
         ensures refused { OnErr result (¬ (HasName self name.now)) }
     {
         match self {
-            Shelf::CronD => table_name(name),
-            Shelf::Crontabs if name.starts_with(b".".as_slice()) => {
-                Err("its name begins with a dot")
+            Shelf::CronD if !is_part_name(name) => {
+                return Err("its name holds other signs than letters, digits, _ and -");
             }
-            Shelf::Crontabs => text_of(name),
+            Shelf::Crontabs if name.starts_with(b".".as_slice()) => {
+                return Err("its name begins with a dot");
+            }
+            _ => {}
+        }
+        match str::from_utf8(name) {
+            Ok(text) => Ok(text),
+            Err(_) => Err("its name isn't UTF-8"),
         }
     }
 
@@ -148,11 +130,8 @@ pub(crate) fn found_at<I: Folders>(
     ensures path { IfOk result (λ found. string_bytes found.0 ≡ front.now ++ name.now) }
     ensures kind { IfOk result (λ found. IfSome (I.tree.kind (front.now ++ name.now))
         (λ known. found.1 ≡ known)) }
-    ensures stays { (I.whole inputs.new ≡ I.whole inputs.old)
-        × (I.left inputs.new ≡ I.left inputs.old) × (I.reads inputs.new ≡ I.reads inputs.old) }
-    ensures works { OnOk result (I.failed inputs.new ≡ I.failed inputs.old) }
+    ensures stays { NoneRead I.whole I.left I.reads inputs.old inputs.new }
     ensures fails { IfErr result (IsUnlisted (I.failed inputs.new) (I.reads inputs.new)) }
-    ensures failed { IfErr result (HasFailed (I.failed inputs.new)) }
 {
     let path = joined(alloc, front, name)?;
     match inputs.kind_of(path.as_str()) {
@@ -170,11 +149,8 @@ pub(crate) fn names_at<I: Folders>(
 ) -> Result<Option<Sequence<Bytes>>, Unlisted>
     ensures value { IfOk result (λ found. IfSome (I.tree.names path.now)
         (λ known. found ≡ known)) }
-    ensures stays { (I.whole inputs.new ≡ I.whole inputs.old)
-        × (I.left inputs.new ≡ I.left inputs.old) × (I.reads inputs.new ≡ I.reads inputs.old) }
-    ensures works { OnOk result (I.failed inputs.new ≡ I.failed inputs.old) }
+    ensures stays { NoneRead I.whole I.left I.reads inputs.old inputs.new }
     ensures fails { IfErr result (IsUnlisted (I.failed inputs.new) (I.reads inputs.new)) }
-    ensures failed { IfErr result (HasFailed (I.failed inputs.new)) }
 {
     match inputs.names(alloc, path) {
         Ok(names) => Ok(names),
@@ -221,9 +197,7 @@ pub(crate) fn push_crontab<I: Folders>(
     ensures finds { OnOk result
         (IsFileAt I.tree (front.now ++ codes "/etc/crontab")
         → Contains found.new.items (system_table (front.now ++ codes "/etc/crontab"))) }
-    ensures stays { (I.whole inputs.new ≡ I.whole inputs.old)
-        × (I.left inputs.new ≡ I.left inputs.old) × (I.reads inputs.new ≡ I.reads inputs.old) }
-    ensures works { OnOk result (I.failed inputs.new ≡ I.failed inputs.old) }
+    ensures stays { NoneRead I.whole I.left I.reads inputs.old inputs.new }
     ensures fails { IfErr result (IsUnlisted (I.failed inputs.new) (I.reads inputs.new)) }
 {
     let (path, kind) = found_at(alloc, inputs, front, "/etc/crontab")?;
@@ -248,9 +222,7 @@ fn push_named<I: Folders>(
     ensures keeps { OnOk result (AreAmong found.old.items found.new.items) }
     ensures finds { OnOk result
         (FindsNamed I.tree folder.now shelf found.new.items name.now) }
-    ensures stays { (I.whole inputs.new ≡ I.whole inputs.old)
-        × (I.left inputs.new ≡ I.left inputs.old) × (I.reads inputs.new ≡ I.reads inputs.old) }
-    ensures works { OnOk result (I.failed inputs.new ≡ I.failed inputs.old) }
+    ensures stays { NoneRead I.whole I.left I.reads inputs.old inputs.new }
     ensures fails { IfErr result (IsUnlisted (I.failed inputs.new) (I.reads inputs.new)) }
 {
     let name = match shelf.name(name) {
@@ -260,32 +232,6 @@ fn push_named<I: Folders>(
     let (path, kind) = found_at(alloc, inputs, folder, name)?;
     let given = shelf.given(alloc, path, name)?;
     Ok(push_found(kind, given, found, notes)?)
-}
-
-/// Adds the tables of these names in a folder of tables.
-fn push_names<I: Folders>(
-    alloc: Global,
-    inputs: &mut I,
-    folder: &str,
-    shelf: Shelf,
-    names: &[Bytes],
-    found: &mut Vec<Given>,
-    notes: &mut Vec<u8>,
-) -> Result<(), Unlisted>
-    ensures below { (front : _) → folder.now ≡ front ++ place_of shelf
-        → OnOk result (All (IsBelow front) found.old.items → All (IsBelow front) found.new.items) }
-    ensures keeps { OnOk result (AreAmong found.old.items found.new.items) }
-    ensures finds { OnOk result
-        (All (FindsNamed I.tree folder.now shelf found.new.items) names.now) }
-    ensures stays { (I.whole inputs.new ≡ I.whole inputs.old)
-        × (I.left inputs.new ≡ I.left inputs.old) × (I.reads inputs.new ≡ I.reads inputs.old) }
-    ensures works { OnOk result (I.failed inputs.new ≡ I.failed inputs.old) }
-    ensures fails { IfErr result (IsUnlisted (I.failed inputs.new) (I.reads inputs.new)) }
-{
-    for name in names {
-        push_named(alloc, inputs, folder, shelf, name.as_slice(), found, notes)?;
-    }
-    Ok(())
 }
 
 /// Adds the tables in a folder of tables, in the order of their names.
@@ -301,18 +247,16 @@ pub(crate) fn push_shelf<I: Folders>(
         → All (IsBelow front.now) found.new.items) }
     ensures keeps { OnOk result (AreAmong found.old.items found.new.items) }
     ensures finds { OnOk result (FindsAllOn I.tree front.now shelf found.new.items) }
-    ensures stays { (I.whole inputs.new ≡ I.whole inputs.old)
-        × (I.left inputs.new ≡ I.left inputs.old) × (I.reads inputs.new ≡ I.reads inputs.old) }
-    ensures works { OnOk result (I.failed inputs.new ≡ I.failed inputs.old) }
+    ensures stays { NoneRead I.whole I.left I.reads inputs.old inputs.new }
     ensures fails { IfErr result (IsUnlisted (I.failed inputs.new) (I.reads inputs.new)) }
 {
     let path = joined(alloc, front, shelf.place())?;
     let folder = path.as_str();
-    match names_at(alloc, inputs, folder)? {
-        Some(names) => {
-            push_names(alloc, inputs, folder, shelf, names.as_slice(), found, notes)?;
-            Ok(())
-        }
-        None => Ok(()),
+    let Some(names) = names_at(alloc, inputs, folder)? else {
+        return Ok(());
+    };
+    for name in names.as_slice() {
+        push_named(alloc, inputs, folder, shelf, name.as_slice(), found, notes)?;
     }
+    Ok(())
 }

@@ -1,13 +1,9 @@
 //! Tables to gather.
-ghost use Rattle.std.specs.Prelude.{◌≡◌, ◌++◌, IfErr, OnOk, map, option_map, string_bytes};
+ghost use Rattle.std.specs.Prelude.{◌≡◌, ◌++◌, OnOk, map, option_map, string_bytes};
 ghost use Rattle.std.specs.List.{AllZip};
 ghost use Rattle.cs_args.specs.Asked.{asked_gather};
 ghost use Rattle.cs_gather.specs.Tables.{AreNamed, IsLastPart, IsUserFile, system_table, user_table};
-ghost use Rattle.cs_gather.specs.Answer.{AddsAs, FaultsAs};
 
-use crate::fault::GatherFault;
-use crate::gathering::Gathering;
-use crate::programs::Parts;
 use cs_args::GatherWords;
 use std::alloc::{AllocError, Global};
 use std::marker::Model;
@@ -16,7 +12,7 @@ use std::marker::Model;
 #[derive(Drop)]
 pub(crate) struct Given {
     place: String,
-    owner: Option<String>,
+    whose: Option<String>,
 }
 
 impl Model for Given {
@@ -28,7 +24,7 @@ impl Model for Given {
 
     ghost view = { λ a. record {
       path = string_bytes a.place;
-      user = option_map string_bytes a.owner;
+      user = option_map string_bytes a.whose;
     } };
 }
 
@@ -39,7 +35,7 @@ impl Given {
     {
         Given {
             place: path,
-            owner: None,
+            whose: None,
         }
     }
 
@@ -49,7 +45,7 @@ impl Given {
     {
         Given {
             place: path,
-            owner: Some(user),
+            whose: Some(user),
         }
     }
 
@@ -64,28 +60,9 @@ impl Given {
     pub(crate) fn owner(&self) -> Option<&str>
         ensures { option_map (λ user. user.now) result ≡ self.now.user }
     {
-        match &self.owner {
+        match &self.whose {
             Some(user) => Some(user.as_str()),
             None => None,
-        }
-    }
-
-    /// Adds its commands, as its bytes say them, with these parts.
-    pub(crate) fn add(
-        &self,
-        alloc: Global,
-        gathering: &mut Gathering,
-        bytes: &[u8],
-        parts: &[Parts],
-    ) -> Result<(), GatherFault>
-        ensures ok { OnOk result
-            (AddsAs self.now.user self.now.path bytes.now parts.now gathering.old gathering.new) }
-        ensures err { IfErr result
-            (FaultsAs self.now.user self.now.path bytes.now parts.now gathering.old) }
-    {
-        match self.owner() {
-            Some(user) => gathering.add_user(alloc, self.path(), user, bytes, parts),
-            None => gathering.add_system(alloc, self.path(), bytes, parts),
         }
     }
 }

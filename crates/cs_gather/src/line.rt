@@ -1,45 +1,27 @@
-ghost use Rattle.std.specs.Prelude.{◌≡◌, IfOk};
-ghost use Rattle.cs_gather.specs.Normal.{IsNormal};
-ghost use Rattle.cs_gather.specs.Gathered.{place_comment};
+ghost use Rattle.std.specs.Prelude.{◌≡◌, IfOk, flat_map};
+ghost use Rattle.cs_gather.specs.Gathered.{place_text, shown_in_user};
 
 use crate::comment::{push_place, push_user};
 use crate::when::copy_when;
-use cs_civil::{Bytes, Sequence};
+use cs_civil::Bytes;
 use cs_crontab::When;
 use std::alloc::{AllocError, Global};
-use std::marker::Model;
 
-/// A command that was gathered, and where it stood.
+/// A command that was gathered, and what the comment above it says.
 #[derive(Drop)]
-pub(crate) struct GatheredLine {
-    table: Bytes,
-    line: u32,
-    owner: Bytes,
-    time: When,
-    text: Bytes,
-    programs: Sequence<Bytes>,
+pub(crate) struct Gathered {
+    /// The number of its line in its table.
+    pub(crate) number: u32,
+    /// `NAME:LINE` of its table.
+    pub(crate) origin: Bytes,
+    /// The user that it runs as, as one word.
+    pub(crate) user: Bytes,
+    pub(crate) when: When,
+    pub(crate) command: Bytes,
 }
 
-impl Model for GatheredLine {
-    ghost use Rattle.cs_gather.specs.Normal.{IsNormal};
-    ghost use Rattle.cs_gather.specs.Gathered.{GatheredCommand};
-
-    ghost Value = { GatheredCommand };
-
-    ghost view = { λ a. record {
-      name = a.table;
-      number = a.line;
-      user = a.owner;
-      when = a.time;
-      command = a.text;
-      parts = a.programs;
-    } };
-
-    ghost invariant = { λ a. IsNormal a.time };
-}
-
-impl GatheredLine {
-    /// Copies what a table says of a command, which has parts of these names.
+impl Gathered {
+    /// Copies what a table says of a command.
     pub(crate) fn new(
         alloc: Global,
         name: &[u8],
@@ -47,62 +29,25 @@ impl GatheredLine {
         user: &[u8],
         when: &When,
         command: &[u8],
-        parts: Sequence<Bytes>,
-    ) -> Result<GatheredLine, AllocError>
-        requires { IsNormal when.now }
-        ensures { IfOk result (λ line. line ≡ record {
-          name = name.now;
+    ) -> Result<Gathered, AllocError>
+        ensures { IfOk result (λ gathered. gathered ≡ record {
           number = number;
-          user = user.now;
+          origin = place_text name.now number;
+          user = flat_map shown_in_user user.now;
           when = when.now;
           command = command.now;
-          parts = parts;
         }) }
     {
-        Ok(GatheredLine {
-            table: Bytes::from_slice(alloc, name)?,
-            line: number,
-            owner: Bytes::from_slice(alloc, user)?,
-            time: copy_when(when),
-            text: Bytes::from_slice(alloc, command)?,
-            programs: parts,
+        let mut origin = Vec::new(alloc);
+        push_place(alloc, &mut origin, name, number)?;
+        let mut owner = Vec::new(alloc);
+        push_user(&mut owner, user)?;
+        Ok(Gathered {
+            number,
+            origin: Bytes::from_vec(origin),
+            user: Bytes::from_vec(owner),
+            when: copy_when(when),
+            command: Bytes::from_slice(alloc, command)?,
         })
-    }
-
-    pub(crate) fn number(&self) -> u32
-        ensures { result ≡ self.now.number }
-    {
-        self.line
-    }
-
-    pub(crate) fn when(&self) -> &When
-        ensures value { result.now ≡ self.now.when }
-        ensures normal { IsNormal self.now.when }
-    {
-        &self.time
-    }
-
-    pub(crate) fn command(&self) -> &[u8]
-        ensures { result.now ≡ self.now.command }
-    {
-        self.text.as_slice()
-    }
-
-    /// The names of its parts.
-    pub(crate) fn parts(&self) -> &[Bytes]
-        ensures { result.now ≡ self.now.parts }
-    {
-        self.programs.as_slice()
-    }
-
-    /// Returns the comment with its place, `#@ NAME:LINE USER`.
-    pub(crate) fn comment(&self, alloc: Global) -> Result<Vec<u8>, AllocError>
-        ensures { IfOk result (λ comment. comment.items ≡ place_comment self.now) }
-    {
-        let mut comment = Vec::from_slice(alloc, b"#@ ")?;
-        push_place(alloc, &mut comment, self.table.as_slice(), self.line)?;
-        comment.push(b' ')?;
-        push_user(&mut comment, self.owner.as_slice())?;
-        Ok(comment)
     }
 }

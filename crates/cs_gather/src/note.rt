@@ -1,7 +1,5 @@
 //! What is told of tables beside what is gathered of them.
-use crate::given::Given;
-use crate::table::{Table, read_table};
-use cs_crontab::Line;
+use crate::table::Table;
 use cs_place::push_shown;
 use cs_report::{first_behind_user, is_no_user, is_unheeded};
 use cs_system::SystemLine;
@@ -10,7 +8,7 @@ use cs_table::text::word;
 use std::alloc::{AllocError, Global};
 
 /// Writes a line behind the text: these parts, each so that it stays one line.
-fn push_line(text: &mut Vec<u8>, parts: &[&[u8]]) -> Result<(), AllocError> {
+pub(crate) fn push_line(text: &mut Vec<u8>, parts: &[&[u8]]) -> Result<(), AllocError> {
     for part in parts {
         push_shown(text, *part)?;
     }
@@ -28,60 +26,23 @@ pub(crate) fn push_passed_over(
     push_line(text, &[b"note: ", folder, name, b" is passed over: ", why])
 }
 
-/// Writes behind the text that there are no tables below a root folder.
-pub(crate) fn push_no_tables(text: &mut Vec<u8>, root: &str) -> Result<(), AllocError> {
-    push_line(
-        text,
-        &[b"note: there are no tables below ", root.as_bytes()],
-    )
-}
-
-/// The place of something on a line of a table.
-fn place_text(alloc: Global, line: u32, path: &str) -> Result<String, AllocError> {
-    format!(in alloc; " on line {line} of {path}")
-}
-
-/// Writes behind the text that there is no folder with the parts of a command.
-pub(crate) fn push_no_parts(
+/// Writes a line behind the text: what it is of, its place on a line of a table, and the rest.
+pub(crate) fn push_at(
     alloc: Global,
     text: &mut Vec<u8>,
+    start: &[u8],
     line: u32,
     path: &str,
-    folder: &str,
+    rest: &[&[u8]],
 ) -> Result<(), AllocError> {
-    let place = place_text(alloc, line, path)?;
-    let start = b"note: there are no parts of the command".as_slice();
-    push_line(
-        text,
-        &[
-            start,
-            place.as_bytes(),
-            b": there is no folder ",
-            folder.as_bytes(),
-        ],
-    )
-}
-
-/// Writes behind the text why the parts of a command aren't known.
-pub(crate) fn push_unknown_parts(
-    alloc: Global,
-    text: &mut Vec<u8>,
-    line: u32,
-    path: &str,
-    why: &[&str],
-) -> Result<(), AllocError> {
-    let place = place_text(alloc, line, path)?;
-    push_shown(text, b"warning: the parts of the command".as_slice())?;
+    let place = format!(in alloc; " on line {line} of {path}")?;
+    push_shown(text, start)?;
     push_shown(text, place.as_bytes())?;
-    push_shown(text, b" aren't known: ".as_slice())?;
-    for part in why {
-        push_shown(text, part.as_bytes())?;
-    }
-    text.extend_from_slice(b"\n")
+    push_line(text, rest)
 }
 
 /// Writes behind the text the warning of each setting that other daemons heed.
-fn push_all_unheeded(
+fn push_unheeded(
     alloc: Global,
     text: &mut Vec<u8>,
     path: &str,
@@ -89,39 +50,12 @@ fn push_all_unheeded(
 ) -> Result<(), AllocError> {
     for setting in settings {
         if is_unheeded(setting) {
-            let place = place_text(alloc, setting.number(), path)?;
-            push_line(
-                text,
-                &[
-                    b"warning: ",
-                    setting.name(),
-                    place.as_bytes(),
-                    b" has no effect",
-                ],
-            )?;
+            push_shown(text, b"warning: ".as_slice())?;
+            let (name, number) = (setting.name(), setting.number());
+            push_at(alloc, text, name, number, path, &[b" has no effect"])?;
         }
     }
     Ok(())
-}
-
-/// Writes behind the text the warning of the first command that seems to stand behind a user.
-fn push_behind_user(
-    alloc: Global,
-    text: &mut Vec<u8>,
-    path: &str,
-    lines: &[Line],
-) -> Result<(), AllocError> {
-    let Some(line) = first_behind_user(lines) else {
-        return Ok(());
-    };
-    let (name, _) = word(line.command());
-    let place = place_text(alloc, line.number(), path)?;
-    let start = b"warning: the command".as_slice();
-    let end = b", as in a system table: see --system".as_slice();
-    push_line(
-        text,
-        &[start, place.as_bytes(), b" begins with ", name, end],
-    )
 }
 
 /// Writes behind the text the warning of the first user that is probably a command.
@@ -131,31 +65,50 @@ fn push_no_user(
     path: &str,
     lines: &[SystemLine],
 ) -> Result<(), AllocError> {
+    let end = b", as a command in a user's table: see --user".as_slice();
     for line in lines {
         if is_no_user(line.user()) {
-            let place = place_text(alloc, line.number(), path)?;
-            let start = b"warning: the user".as_slice();
-            let end = b", as a command in a user's table: see --user".as_slice();
-            return push_line(text, &[start, place.as_bytes(), b" is ", line.user(), end]);
+            let rest: [&[u8]; 3] = [b" is ", line.user(), end];
+            return push_at(
+                alloc,
+                text,
+                b"warning: the user",
+                line.number(),
+                path,
+                &rest,
+            );
         }
     }
     Ok(())
 }
 
-/// Writes behind the text what is to be warned of in a table without a fault.
+/// Writes behind the text what is to be warned of in a table.
 pub(crate) fn push_warnings(
     alloc: Global,
     text: &mut Vec<u8>,
-    given: &Given,
-    bytes: &[u8],
+    path: &str,
+    table: &Table,
 ) -> Result<(), AllocError> {
-    let Some(table) = read_table(alloc, given, bytes)? else {
+    let table = match table {
+        Table::System(table) => {
+            push_unheeded(alloc, text, path, table.settings())?;
+            return push_no_user(alloc, text, path, table.lines());
+        }
+        Table::User(table) => table,
+    };
+    push_unheeded(alloc, text, path, table.settings())?;
+    let Some(line) = first_behind_user(table.lines()) else {
         return Ok(());
     };
-    let path = given.path();
-    push_all_unheeded(alloc, text, path, table.settings())?;
-    match &table {
-        Table::System(table) => push_no_user(alloc, text, path, table.lines()),
-        Table::User(table) => push_behind_user(alloc, text, path, table.lines()),
-    }
+    let (name, _) = word(line.command());
+    let end = b", as in a system table: see --system".as_slice();
+    let rest: [&[u8]; 3] = [b" begins with ", name, end];
+    push_at(
+        alloc,
+        text,
+        b"warning: the command",
+        line.number(),
+        path,
+        &rest,
+    )
 }

@@ -1,12 +1,14 @@
 //! A table to gather, as it was read.
-ghost use Rattle.std.specs.Prelude.{◌≡◌, IfOk, Some, map, option_map};
-ghost use Rattle.cs_gather.specs.Answer.{SayCommands, commands_in};
-ghost use Rattle.cs_gather.specs.Listing.{numbered};
+ghost use Rattle.std.specs.Prelude.{◌≡◌, IfErr, IfOk, map};
+ghost use Rattle.cs_gather.specs.Gathered.{commands_of, of_system, of_user};
+ghost use Rattle.cs_gather.specs.Gather.{Denotes, HasFault, as_system};
 
+use crate::gathering::GatherFault;
 use crate::given::Given;
+use crate::line::Gathered;
 use cs_crontab::{Crontab, Line, read_crontab};
-use cs_system::{SystemLine, SystemTable, read_system_crontab};
-use cs_table::{Setting, TableFault};
+use cs_system::{SystemFault, SystemLine, SystemTable, read_system_crontab};
+use cs_table::TableFault;
 use std::alloc::{AllocError, Global};
 
 /// A system table, or that of a user.
@@ -18,72 +20,87 @@ pub(crate) enum Table {
     User(Crontab),
 }
 
-/// The table that the bytes say, unless they have a fault.
-pub(crate) fn read_table(
-    alloc: Global,
-    given: &Given,
-    bytes: &[u8],
-) -> Result<Option<Table>, AllocError>
-    ensures { (commands : _) → SayCommands given.now.user bytes.now commands
-        → IfOk result (λ found. option_map commands_in found ≡ Some commands) }
+/// A fault of a user's table, as one of a system table.
+fn as_system(fault: cs_crontab::TableFault) -> GatherFault
+    ensures { result ≡ as_system fault }
 {
-    match given.owner() {
-        None => match read_system_crontab(alloc, bytes) {
-            Ok(table) => Ok(Some(Table::System(table))),
-            Err(TableFault::OutOfMemory) => Err(AllocError),
-            Err(TableFault::At { .. }) => Ok(None),
-        },
-        Some(_) => match read_crontab(alloc, bytes) {
-            Ok(table) => Ok(Some(Table::User(table))),
-            Err(TableFault::OutOfMemory) => Err(AllocError),
-            Err(TableFault::At { .. }) => Ok(None),
+    match fault {
+        TableFault::OutOfMemory => TableFault::OutOfMemory,
+        TableFault::At {
+            line,
+            column,
+            length,
+            fault,
+        } => TableFault::At {
+            line,
+            column,
+            length,
+            fault: SystemFault::Line(fault),
         },
     }
 }
 
-/// The commands of a system table, each with its line.
-fn system_commands<'t>(
+/// The table that the bytes say, or its first fault.
+pub(crate) fn read_table(alloc: Global, given: &Given, bytes: &[u8]) -> Result<Table, GatherFault>
+    ensures table { IfOk result (Denotes given.now.user bytes.now) }
+    ensures fault { IfErr result (HasFault given.now.user bytes.now) }
+{
+    match given.owner() {
+        None => match read_system_crontab(alloc, bytes) {
+            Ok(table) => Ok(Table::System(table)),
+            Err(fault) => Err(fault),
+        },
+        Some(_) => match read_crontab(alloc, bytes) {
+            Ok(table) => Ok(Table::User(table)),
+            Err(fault) => Err(as_system(fault)),
+        },
+    }
+}
+
+fn system_commands(
     alloc: Global,
-    lines: &'t [SystemLine],
-) -> Result<Vec<(u32, &'t [u8])>, AllocError>
-    ensures { IfOk result (λ commands. map numbered commands.items
-        ≡ map (λ line. (line.number, line.command)) lines.now) }
+    name: &[u8],
+    lines: &[SystemLine],
+) -> Result<Vec<Gathered>, AllocError>
+    ensures { IfOk result (λ commands. commands.items ≡ map (of_system name.now) lines.now) }
 {
     let mut commands = Vec::new(alloc);
     for line in lines {
-        commands.push((line.number(), line.command()))?;
+        let (number, user) = (line.number(), line.user());
+        let (when, command) = (line.when(), line.command());
+        commands.push(Gathered::new(alloc, name, number, user, when, command)?)?;
     }
     Ok(commands)
 }
 
-/// The commands of a user's table, each with its line.
-fn user_commands<'t>(alloc: Global, lines: &'t [Line]) -> Result<Vec<(u32, &'t [u8])>, AllocError>
-    ensures { IfOk result (λ commands. map numbered commands.items
-        ≡ map (λ line. (line.number, line.command)) lines.now) }
+fn user_commands(
+    alloc: Global,
+    name: &[u8],
+    user: &[u8],
+    lines: &[Line],
+) -> Result<Vec<Gathered>, AllocError>
+    ensures { IfOk result (λ commands. commands.items ≡ map (of_user name.now user.now) lines.now) }
 {
     let mut commands = Vec::new(alloc);
     for line in lines {
-        commands.push((line.number(), line.command()))?;
+        let (number, when, command) = (line.number(), line.when(), line.command());
+        commands.push(Gathered::new(alloc, name, number, user, when, command)?)?;
     }
     Ok(commands)
 }
 
 impl Table {
-    /// Its commands, each with its line.
-    pub(crate) fn commands(&self, alloc: Global) -> Result<Vec<(u32, &[u8])>, AllocError>
-        ensures { IfOk result (λ commands. map numbered commands.items ≡ commands_in self.now) }
+    /// Its commands, each with its place.
+    pub(crate) fn commands(&self, alloc: Global, given: &Given) -> Result<Vec<Gathered>, AllocError>
+        ensures { IfOk result (λ commands. commands.items ≡ commands_of given.now self.now) }
     {
+        let name = given.path().as_bytes();
         match self {
-            Table::System(table) => system_commands(alloc, table.lines()),
-            Table::User(table) => user_commands(alloc, table.lines()),
-        }
-    }
-
-    /// Its settings.
-    pub(crate) fn settings(&self) -> &[Setting] {
-        match self {
-            Table::System(table) => table.settings(),
-            Table::User(table) => table.settings(),
+            Table::System(table) => system_commands(alloc, name, table.lines()),
+            Table::User(table) => {
+                let user = given.owner().unwrap_or("");
+                user_commands(alloc, name, user.as_bytes(), table.lines())
+            }
         }
     }
 }

@@ -9,10 +9,11 @@ ghost use Rattle.cs_system.specs.declared.fault.SystemFault.TheVariants.{Line};
 ghost use Rattle.cs_gather.specs.Gather.{IsOverflow};
 
 use crate::comment::push_place;
-use crate::fault::GatherFault;
-use crate::line::GatheredLine;
+use crate::gathering::GatherFault;
+use crate::line::Gathered;
+use cs_civil::{Bytes, Sequence};
 use cs_crontab::{Entry, LineFault, read_line};
-use cs_place::{MARK, PART, push_shown};
+use cs_place::{PART, push_shown};
 use cs_system::SystemFault;
 use cs_table::text::{first_line, skip_blanks};
 use cs_table::{MAX_LINE, MAX_TABLE, Wrong};
@@ -30,25 +31,28 @@ fn time_text(line: &[u8]) -> &[u8] {
 /// Adds the place of a command, its parts, and the command. Says whether the text stays short
 /// enough.
 fn push_command(
-    alloc: Global,
     text: &mut Vec<u8>,
     line: &[u8],
-    gathered: &GatheredLine,
+    gathered: &Gathered,
+    parts: &[Bytes],
 ) -> Result<bool, AllocError> {
-    let comment = gathered.comment(alloc)?;
-    text.extend_from_slice(comment.as_slice())?;
+    let len = text.len();
+    text.extend_from_slice(b"#@ ".as_slice())?;
+    text.extend_from_slice(gathered.origin.as_slice())?;
+    text.push(b' ')?;
+    text.extend_from_slice(gathered.user.as_slice())?;
+    let mut is_short = text.len().saturating_sub(len) <= MAX_LINE;
     text.push(b'\n')?;
-    let mut is_short = comment.len() <= MAX_LINE;
-    for name in gathered.parts() {
+    for name in parts {
         text.extend_from_slice(PART)?;
         text.extend_from_slice(name.as_slice())?;
         text.push(b'\n')?;
         is_short = is_short && name.len() <= MAX_LINE - PART.len();
     }
     text.extend_from_slice(time_text(line))?;
-    text.extend_from_slice(gathered.command())?;
+    text.extend_from_slice(gathered.command.as_slice())?;
     text.push(b'\n')?;
-    Ok(is_short && text.len() <= MAX_TABLE - MARK.len())
+    Ok(is_short && text.len() <= MAX_TABLE)
 }
 
 /// Adds the comment of a setting, `# NAME:LINE SETTING`, or `# NAME:LINE` if that is too long; and
@@ -73,7 +77,7 @@ fn push_setting(
     }
     text.extend_from_slice(comment.as_slice())?;
     text.push(b'\n')?;
-    Ok(comment.len() <= MAX_LINE && text.len() <= MAX_TABLE - MARK.len())
+    Ok(comment.len() <= MAX_LINE && text.len() <= MAX_TABLE)
 }
 
 /// The fault of the whole line.
@@ -84,14 +88,15 @@ fn overflow(fault: LineFault, number: u32, line: &[u8]) -> GatherFault
     Wrong::whole(SystemFault::Line(fault), skip_blanks(line)).at(number, line)
 }
 
-/// Adds the lines of a table with these commands, for some of which there is room.
+/// Adds the lines of a table with these commands, for some of which there is room, and their parts.
 pub(crate) fn push_lines(
     alloc: Global,
     text: &mut Vec<u8>,
     name: &[u8],
     bytes: &[u8],
     room: usize,
-    commands: &[GatheredLine],
+    commands: &[Gathered],
+    parts: &[Sequence<Bytes>],
 ) -> Result<(), GatherFault>
     requires { length bytes.now ≤ MAX_TABLE }
     ensures { IfErr result (IsOverflow bytes.now room commands.now) }
@@ -103,12 +108,16 @@ pub(crate) fn push_lines(
         let (line, behind) = first_line(rest);
         number += 1;
         let is_short = match commands.get(index) {
-            Some(command) if command.number() == number => {
+            Some(command) if command.number == number => {
                 if index == room {
                     return Err(overflow(LineFault::TooManyJobs, number, line));
                 }
+                let names = match parts.get(index) {
+                    Some(names) => names.as_slice(),
+                    None => &[],
+                };
                 index += 1;
-                push_command(alloc, text, line, command)?
+                push_command(text, line, command, names)?
             }
             _ => push_setting(alloc, text, name, number, line)?,
         };

@@ -1,63 +1,49 @@
 -- What is answered to `learn`.
-use Rattle.std.specs.Prelude.{◌≡◌, ◌⊎◌, ◌++◌, ℕ, ℤ, true, List, [], codes, Contains, Option, Some, None}
-use Rattle.std.specs.Prelude.{IfSome, option_map, Result, Ok, Err}
-use Rattle.std.specs.Result.{result_map_both}
+use Rattle.std.specs.Prelude.{◌≡◌, ◌⊎◌, ◌++◌, ℕ, true, List, [], codes, Contains, Option, Some, None}
+use Rattle.std.specs.Prelude.{Result, Ok, Err}
 use Rattle.clap.specs.Words.{Text}
-use Rattle.cs_crontab.specs.Crontab.{Table}
-use Rattle.cs_anacrontab.specs.Anacrontab.{Table as JobTable}
-use Rattle.cs_place.specs.declared.places.Place.{Place}
-use Rattle.cs_decl.specs.declared.entries.Entries.{Entries}
 use Rattle.cs_args.specs.Asked.{AskedLearn}
 use Rattle.cs_io.specs.Files.{Failed, IsTooLong}
-use Rattle.cs_learn.specs.Learned.{IsLearned}
-use Rattle.cs_learn.specs.Learning.{Told, nothing}
-use Rattle.cs_learn.specs.Log.{AreLogs, IsReading, LogState, at_front}
-use Rattle.cs_learn.specs.Max.{factor_in}
-use Rattle.cs_files.specs.Reads.{AndThen, Answered, Gives, GivesSome, PlacesIn, ReadsEntries, ReadsTables}
-use Rattle.cs_files.specs.Response.{Ending}
-use Rattle.cs_files.specs.Trouble.{TellsPath, Trouble, Unread, trouble}
-use Rattle.cs_files.specs.declared.fault.Fault.{Fault}
 use Rattle.cs_io.specs.declared.inputs.ReadFault.{ReadFault}
 use Rattle.cs_io.specs.declared.inputs.ReadFault.TheVariants.{CannotRead, OutOfMemory}
-use Rattle.cs_learn.specs.declared.job.Job.{Job}
-use Rattle.cs_draft.specs.Answer.{IsPrinted}
-
--- the declarations to update, if there are some
-abbrev pub ReadsOld : (List ℕ → Option (List ℕ)) → Option Text → Failed → Failed
-    → Result (Option Entries) Trouble → Type 0
-ReadsOld files None = Gives (Ok None)
-ReadsOld files (Some path) = AndThen (ReadsEntries files path) (λ old. Gives (Ok (Some old)))
+use Rattle.cs_files.specs.Asked.{Answers, FindsTables}
+use Rattle.cs_files.specs.Reads.{AndThen, GivesSome}
+use Rattle.cs_files.specs.Response.{Ending}
+use Rattle.cs_files.specs.Trouble.{TellsPath, Trouble, Unread}
+use Rattle.cs_files.specs.declared.asked.Tables.{Tables}
+use Rattle.cs_learn.specs.Learned.{IsLearned}
+use Rattle.cs_learn.specs.Max.{factor_in}
+use Rattle.cs_learn.specs.declared.answer.Learnable.{Learnable}
+use Rattle.cs_learn.specs.declared.log.Log.{Log}
 
 -- the path of a log could not be read, or took as many reads as it may
 abbrev pub IsUnreadLog : (List ℕ → Option (List ℕ)) → List Text → Failed → Failed → Trouble → Type 0
 IsUnreadLog files logs before after t = (path : Text) × Contains logs path × TellsPath path t
     × ((after path ≡ true) ⊎ ((after ≡ before) × IsTooLong path files))
 
--- what the logs tell, read one after the other to their ends
+-- the logs are read one after the other to their ends
 abbrev pub ReadsLogs : (List ℕ → Option (List ℕ)) → List Text → Failed → Failed
-    → Result Told Trouble → Type 0
-ReadsLogs files logs before after (Ok told) = (after ≡ before) × AreLogs files logs nothing told
+    → Result Log Trouble → Type 0
+ReadsLogs files logs before after (Ok log) = after ≡ before
 ReadsLogs files logs before after (Err t) = IsUnreadLog files logs before after t
 
--- declarations with the longest times that the logs give are printed, or that there are none is told
-abbrev pub IsPrintedOf : (List ℕ → Option (List ℕ)) → Text → Table × JobTable → ℤ → Option Entries
-    → ℕ → Told → Ending → Type 0
-IsPrintedOf files path tables offset old factor told ending =
-    (places : List Place) × PlacesIn files path tables.0 places
-    × IsPrinted (IsLearned tables.0 tables.1 places offset old factor told) ending
+-- a factor, the tables and what logs tell of the jobs
+abbrev pub AreLearnable : ℕ → Tables → Log → Option Learnable → Type 0
+AreLearnable factor tables log found =
+    found ≡ Some (record { factor = factor; tables = tables; log = log })
 
--- the old declarations are read, and then the logs
-abbrev pub Learns : (List ℕ → Option (List ℕ)) → AskedLearn → ℤ → ℕ → Table × JobTable → Failed
-    → Failed → Result Ending Trouble → Type 0
-Learns files a offset factor tables = AndThen (ReadsOld files a.update)
-    (λ old. AndThen (ReadsLogs files a.logs)
-    (λ told. GivesSome (IsPrintedOf files a.table tables offset old factor told)))
+-- the table and then the logs, by the factor that a text is: one that is none ends the call before a
+-- file is read
+abbrev pub FindsBy : Option ℕ → AskedLearn → (List ℕ → Option (List ℕ)) → List ℕ → Failed → Failed
+    → Result (Option Learnable) Trouble → Type 0
+FindsBy None a files w before after r = (w ≡ []) × (after ≡ before) × (r ≡ Ok None)
+FindsBy (Some factor) a files w before after r = AndThen (FindsTables files a.table None w)
+    (λ tables. AndThen (ReadsLogs files a.logs)
+    (λ log. GivesSome (AreLearnable factor tables log))) before after r
 
--- the table is read first
-abbrev pub LearnsTables : AskedLearn → ℤ → ℕ → (List ℕ → Option (List ℕ)) → Failed → Failed → Ending
-    → Type 0
-LearnsTables a offset factor files =
-    Answered (ReadsTables files a.table None) (λ both. Learns files a offset factor both)
+abbrev pub FindsLearnable : AskedLearn → (List ℕ → Option (List ℕ)) → List ℕ → Failed → Failed
+    → Result (Option Learnable) Trouble → Type 0
+FindsLearnable a = FindsBy (factor_in a.factor) a
 
 -- what is answered where this text is no factor
 abbrev pub no_factor : Text → Ending
@@ -68,31 +54,20 @@ no_factor text = record {
       ++ codes "\n";
 }
 
--- what is answered to `learn`, by the factor that its text is: one that is none is no call, and ends it
--- before a file is read; else the first fault of the files does
-abbrev pub AnswersBy : Option ℕ → AskedLearn → ℤ → (List ℕ → Option (List ℕ)) → Failed → Failed
+-- what is answered of it: longest times that what is known of the jobs gives are printed, or that there
+-- is no such text is told, with status 2; or that there is no factor
+abbrev pub PrintsLearned : Text → Option Learnable → Ending → Type 0
+PrintsLearned factor None ending = ending ≡ no_factor factor
+PrintsLearned factor (Some x) ending =
+    ((ending.status ≡ 0) × IsLearned x.tables.crontab.lines x.log.jobs.items x.factor ending.out)
+    ⊎ ((ending.status ≡ 2) × (ending.out ≡ []))
+
+-- what is answered to `learn`: that, or the first fault of the files
+abbrev pub AnswersLearn : AskedLearn → (List ℕ → Option (List ℕ)) → List ℕ → Failed → Failed
     → Ending → Type 0
-AnswersBy None a offset files before after ending =
-    (after ≡ before) × (ending ≡ no_factor a.factor)
-AnswersBy (Some factor) a offset files before after ending =
-    LearnsTables a offset factor files before after ending
-
-abbrev pub AnswersLearn : AskedLearn → ℤ → (List ℕ → Option (List ℕ)) → Failed → Failed → Ending
-    → Type 0
-AnswersLearn a = AnswersBy (factor_in a.factor) a
-
--- ---- what functions came to
-
--- old declarations, without their bytes
-abbrev pub entries_in : {X E : Type 0} → Result (Option (Entries × X)) E → Result (Option Entries) E
-entries_in found = result_map_both (option_map (λ p. p.0)) (λ e. e) found
+AnswersLearn a files w = Answers (FindsLearnable a files w) (PrintsLearned a.factor)
 
 -- why a log can't be read, unless it is want of memory
 abbrev pub trouble_of : Text → ReadFault → Option Trouble
 trouble_of path (CannotRead reason) = Some (Unread path reason)
 trouble_of path OutOfMemory = None
-
--- logs of these jobs were read, and told what they tell; or there is a fault
-abbrev pub CameToLog : (Result Told Trouble → Type 0) → List Job → Result LogState Fault → Type 0
-CameToLog R jobs (Ok log) = (told : Told) × R (Ok told) × IsReading jobs (at_front told) log
-CameToLog R jobs (Err fault) = IfSome (trouble fault) (λ t. R (Err t))

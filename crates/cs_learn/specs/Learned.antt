@@ -1,32 +1,43 @@
--- Declarations whose longest times logs give.
-use Rattle.std.specs.Prelude.{◌≡◌, ℕ, ℤ, List, map, Option, Some, None}
-use Rattle.cs_crontab.specs.Crontab.{Table as Crontab}
-use Rattle.cs_anacrontab.specs.Anacrontab.{Table as Anacrontab}
-use Rattle.cs_place.specs.declared.places.Place.{Place}
-use Rattle.cs_decl.specs.declared.entries.Entries.{Entries}
-use Rattle.cs_draft.specs.Draft.{IsUpdate, nothing}
-use Rattle.cs_learn.specs.Jobs.{job_on}
-use Rattle.cs_learn.specs.Learning.{Told}
-use Rattle.cs_learn.specs.Log.{HaveRuns}
-use Rattle.cs_learn.specs.Maxes.{AreMaxes, HasMaxes}
-use Rattle.cs_learn.specs.declared.drawn.TheConstants.{NEW_MAX}
-use Rattle.cs_learn.specs.declared.job_evidence.JobEvidence.{JobEvidence}
+-- The longest times that logs give.
+use Rattle.std.specs.Prelude.{◌≡◌, ◌==◌, ◌<◌, ℕ, Bool, true, List, All, Option, Some, None, IfSome, IsSomeAnd}
+use Rattle.std.specs.List.{list_all, list_any}
+use Rattle.cs_crontab.specs.Crontab.{CommandLine}
+use Rattle.cs_retrace.specs.Maxes.{given_in, max_of}
+use Rattle.cs_retrace.specs.declared.maxes.Given.{Given}
+use Rattle.cs_retrace.specs.declared.maxes.TheConstants.{LONGEST_MAX}
+use Rattle.cs_learn.specs.Max.{IsEnough, IsMax}
+use Rattle.cs_learn.specs.declared.evidence.Evidence.{Evidence}
+use Rattle.cs_learn.specs.declared.evidence.Ran.{Ran}
+use Rattle.cs_learn.specs.declared.job.Job.{Job}
 
--- a draft, or an update of old declarations, where a new job has the longest time of `draft`
-abbrev pub IsDrawn : Crontab → Anacrontab → List Place → ℤ → Option Entries → List ℕ → Type 0
-IsDrawn table jobs places offset None = IsUpdate table jobs places (nothing offset) NEW_MAX
-IsDrawn table jobs places offset (Some old) = IsUpdate table jobs places old NEW_MAX
+-- the seconds since a start without an end, 0 where there is none
+abbrev pub seconds_since : Option Ran → ℕ
+seconds_since None = 0
+seconds_since (Some run) = run.seconds
 
--- The bytes are what is drawn up, but each entry without parts has the longest time that the runs of
--- its line give by a factor in hundredths, or that timeout(1) allows if that is more, where the runs
--- give one; and an update keeps the entries of anacron jobs.
-pub record IsLearned (table : Crontab) (anacrontab : Anacrontab) (places : List Place) (offset : ℤ)
-    (old : Option Entries) (factor : ℕ) (told : Told) (bytes : List ℕ) : Type 0 where
-  pub drawn : List ℕ
-  pub is_drawn : IsDrawn table anacrontab places offset old drawn
-  pub known : List JobEvidence
-  pub jobs : map (λ j. j.job) known ≡ map (job_on places) table.lines
-  pub runs : HaveRuns told.1 known
-  pub maxes : List (Option ℕ)
-  pub are_maxes : AreMaxes factor known maxes
-  pub learned : HasMaxes table.lines maxes old drawn bytes
+-- There is none without a run that has ended, and where 4,320 minutes aren't enough; else it is
+-- that of the longest run, by a factor in hundredths.
+abbrev pub IsMaxOf : ℕ → Evidence → Option ℕ → Type 0
+IsMaxOf factor known (Some max) = IsSomeAnd known.longest
+    (λ ran. IsMax ran.seconds (seconds_since known.longest_open) factor max)
+IsMaxOf factor known None = IfSome known.longest (λ ran. (minutes : ℕ)
+    → IsEnough ran.seconds (seconds_since known.longest_open) factor minutes
+    → LONGEST_MAX < minutes)
+
+-- a job is given its max, by the number of its line
+abbrev pub Gives : ℕ → List Given → Job → Type 0
+Gives factor given job = IsMaxOf factor job.evidence (max_of given job.number)
+
+-- the crontab has a command on the line of a longest time
+abbrev pub is_line : List CommandLine → Given → Bool
+is_line lines g = list_any (λ line. line.number == g.number) lines
+
+-- each job is given its max, and each longest time is of a line of the crontab
+abbrev pub AreLearned : List CommandLine → List Job → ℕ → List Given → Type 0
+AreLearned lines jobs factor given =
+    All (Gives factor given) jobs × (list_all (is_line lines) given ≡ true)
+
+-- The bytes are what is learned of these jobs, as they are read back.
+abbrev pub IsLearned : List CommandLine → List Job → ℕ → List ℕ → Type 0
+IsLearned lines jobs factor bytes =
+    (given : List Given) × (given_in bytes ≡ Some given) × AreLearned lines jobs factor given

@@ -1,17 +1,3 @@
-pub mod Told
-pub mod Own
-pub mod Journal
-pub mod LogLine
-pub mod Listing
-pub mod Runs
-pub mod Evidence
 pub mod Max
-pub mod Learning
-pub mod Logged
-pub mod Job
-pub mod JobEvidence
-pub mod Jobs
-pub mod Log
-pub mod Maxes
 pub mod Learned
 pub mod Answer

@@ -1,32 +1,22 @@
 //! The subcommand `learn`.
-ghost use Rattle.std.specs.Prelude.{◌≡◌, ◌≢◌, ◌⊎◌, [], ◌++◌, IfErr, IfOk, None, OnOk, map, option_map};
+ghost use Rattle.std.specs.Prelude.{◌≡◌, ◌≢◌, [], IfErr, IfOk, None, OnOk, map};
 ghost use Rattle.cs_args.specs.Asked.{asked_learn};
 ghost use Rattle.cs_io.specs.Files.{AreReadInTurn, IsFresh};
-ghost use Rattle.cs_files.specs.RanOut.{IsWarned};
-ghost use Rattle.cs_files.specs.Reads.{PlacesIn};
-ghost use Rattle.cs_files.specs.Trouble.{CameTo, IsHonest, IsHonestOf, trouble};
-ghost use Rattle.cs_files.specs.Turn.{learn_paths, some_path};
-ghost use Rattle.cs_learn.specs.Jobs.{job_on};
-ghost use Rattle.cs_learn.specs.Learned.{IsLearned};
-ghost use Rattle.cs_learn.specs.Learning.{Told};
-ghost use Rattle.cs_learn.specs.Log.{IsReading, at_front};
-ghost use Rattle.cs_draft.specs.Answer.{IsPrinted};
-ghost use Rattle.cs_learn.specs.Answer.{AnswersLearn, CameToLog, Learns, LearnsTables};
-ghost use Rattle.cs_learn.specs.Answer.{ReadsLogs, ReadsOld, entries_in, no_factor, trouble_of};
+ghost use Rattle.cs_files.specs.Asked.{Tells, Warns};
+ghost use Rattle.cs_files.specs.Ending.{sink};
+ghost use Rattle.cs_files.specs.Trouble.{CameTo, IsHonestOf, trouble};
+ghost use Rattle.cs_files.specs.Turn.{learn_paths};
+ghost use Rattle.cs_learn.specs.Answer.{FindsLearnable, PrintsLearned, ReadsLogs, no_factor, trouble_of};
 
-use crate::drawn::learn;
-use crate::jobs::jobs_of;
+use crate::job::jobs_of;
+use crate::learned::learn;
 use crate::log::Log;
 use crate::max::Factor;
 use crate::reading::{Unread, read_logs};
-use cs_anacrontab::Anacrontab;
+use crate::summary::summary_of;
 use cs_args::LearnWords;
-use cs_crontab::{Crontab, Line};
-use cs_decl::{Declarations, read_declarations};
-use cs_files::{Fault, RanOut, Response, Status, all_bytes_at, read_placed_tables};
-use cs_io::{Inputs, ReadFault};
-use cs_place::Place;
-use cs_report::warnings;
+use cs_files::{Fault, Response, Status, Tables, find_tables};
+use cs_io::{Inputs, Output, ReadFault};
 use std::alloc::{AllocError, Global};
 
 /// What is answered where the text is no factor.
@@ -44,35 +34,8 @@ fn no_factor(alloc: Global, factor: &str) -> Result<Response, AllocError>
 fn nothing_learned(alloc: Global) -> Result<Response, AllocError>
     ensures { IfOk result (λ r. (r.status ≡ 2) × (r.out ≡ [])) }
 {
-    let fault = b"no draft could be made".as_slice();
+    let fault = b"no longest times could be learned".as_slice();
     Response::fault(alloc, Status::Unknown, b"".as_slice(), fault)
-}
-
-/// The declarations at a path, and their bytes, if there is one.
-fn old_at<'a, I: Inputs>(
-    alloc: Global,
-    inputs: &mut I,
-    path: Option<&'a str>,
-) -> Result<Option<(Declarations, Vec<u8>)>, Fault<'a>>
-    ensures step { IsFresh (I.whole inputs.old) (I.left inputs.old)
-        → CameTo (ReadsOld (I.whole inputs.old) (option_map (λ path. path.now) path.entry)
-        (I.failed inputs.old) (I.failed inputs.new)) (entries_in result) }
-    ensures works { OnOk result (I.failed inputs.new ≡ I.failed inputs.old) }
-    ensures whole { I.whole inputs.new ≡ I.whole inputs.old }
-    ensures fresh { OnOk result (IsFresh (I.whole inputs.old) (I.left inputs.old)
-        → IsFresh (I.whole inputs.new) (I.left inputs.new)) }
-    ensures status { IfErr result (IsHonestOf (I.failed inputs.new) (I.reads inputs.new)) }
-    ensures turn { AreReadInTurn (some_path (option_map (λ path. path.now) path.entry))
-        (I.reads inputs.old) (I.reads inputs.new) }
-{
-    match path {
-        Some(path) => {
-            let bytes = all_bytes_at(alloc, inputs, path)?;
-            let old = read_declarations(alloc, bytes.as_slice())?;
-            Ok(Some((old, bytes)))
-        }
-        None => Ok(None),
-    }
 }
 
 /// Why a log can't be read.
@@ -85,23 +48,22 @@ fn fault_of(unread: Unread<'_>) -> Fault<'_>
     }
 }
 
-/// What the logs at these paths tell of the jobs of the lines.
+/// What the logs at these paths tell of the jobs of the table.
 fn logs_at<'a, I: Inputs>(
     alloc: Global,
     inputs: &mut I,
     paths: &[&'a str],
-    lines: &[Line],
-    places: &[Place],
+    tables: &Tables,
 ) -> Result<Log, Fault<'a>>
     ensures step { IsFresh (I.whole inputs.old) (I.left inputs.old)
-        → CameToLog (ReadsLogs (I.whole inputs.old) (map (λ path. path.now) paths.now)
-        (I.failed inputs.old) (I.failed inputs.new))
-        (map (job_on places.now) lines.now) result }
+        → CameTo (ReadsLogs (I.whole inputs.old) (map (λ path. path.now) paths.now)
+        (I.failed inputs.old) (I.failed inputs.new)) result }
+    ensures works { OnOk result (I.failed inputs.new ≡ I.failed inputs.old) }
     ensures status { IfErr result (IsHonestOf (I.failed inputs.new) (I.reads inputs.new)) }
     ensures turn { AreReadInTurn (map (λ path. path.now) paths.now)
         (I.reads inputs.old) (I.reads inputs.new) }
 {
-    let jobs = jobs_of(alloc, lines, places)?;
+    let jobs = jobs_of(alloc, tables.crontab.lines(), tables.places.as_slice())?;
     let mut log = Log::new(alloc, jobs);
     match read_logs(alloc, inputs, paths, &mut log) {
         Ok(()) => Ok(log),
@@ -109,140 +71,67 @@ fn logs_at<'a, I: Inputs>(
     }
 }
 
-/// Old declarations by reference.
-fn by_reference(old: &Option<(Declarations, Vec<u8>)>) -> Option<&Declarations>
-    ensures { option_map (λ d. d.now) result ≡ option_map (λ p. p.0) old.now }
-{
-    match old {
-        Some((old, _)) => Some(old),
-        None => None,
-    }
+/// What the words and the files of `learn` give.
+#[derive(Drop)]
+pub struct Learnable {
+    /// What the longest times are multiplied by.
+    pub factor: Factor,
+    /// The crontab, and an anacrontab without jobs.
+    pub tables: Tables,
+    /// What the logs tell of the table's jobs.
+    pub log: Log,
 }
 
-/// The bytes of old declarations, none where there are no declarations.
-fn bytes_of(old: &Option<(Declarations, Vec<u8>)>) -> &[u8] {
-    match old {
-        Some((_, bytes)) => bytes.as_slice(),
-        None => b"".as_slice(),
-    }
-}
-
-/// What is answered of both tables, the places of the lines, old declarations, if there are some, and
-/// the logs of the table's jobs.
-fn show(
-    alloc: Global,
-    tables: &(Crontab, Anacrontab),
-    places: &[Place],
-    offset: i16,
-    old: &Option<(Declarations, Vec<u8>)>,
-    log: &Log,
-    factor: Factor,
-) -> Result<Response, AllocError>
-    ensures value { (told : Told)
-        → IsReading (map (job_on places.now) tables.now.0.lines) (at_front told) log.now
-        → IfOk result (IsPrinted (IsLearned tables.now.0 tables.now.1 places.now offset
-        (option_map (λ p. p.0) old.now) factor told)) }
-    ensures done { IfOk result (λ r. r.status ≢ 6) }
-{
-    let (table, jobs) = (&tables.0, &tables.1);
-    let lent = by_reference(old);
-    let bytes = bytes_of(old);
-    let learned = learn(alloc, table, jobs, places, offset, lent, bytes, log, factor)?;
-    match learned {
-        Some(found) => Ok(Response::done(found.text.into_vec(), found.told)),
-        None => nothing_learned(alloc),
-    }
-}
-
-/// What is answered once the table was read.
-fn learned_of<'a, I: Inputs>(
+/// Reads the table and then the logs, and writes to standard error what is to be warned of the table.
+/// Nothing where the words give no factor.
+pub fn find_learnable<'a, I: Inputs, E: Output>(
     alloc: Global,
     inputs: &mut I,
-    request: &LearnWords<'a>,
-    factor: Factor,
-    offset: i16,
-    tables: &(Crontab, Anacrontab),
-    places: &[Place],
-) -> Result<Response, Fault<'a>>
-    ensures step { IsFresh (I.whole inputs.old) (I.left inputs.old)
-        → PlacesIn (I.whole inputs.old) (asked_learn request.now).table tables.now.0 places.now
-        → CameTo (Learns (I.whole inputs.old) (asked_learn request.now) offset factor tables.now
-        (I.failed inputs.old) (I.failed inputs.new)) result }
+    err: &mut E,
+    words: &LearnWords<'a>,
+) -> Result<Option<Learnable>, Fault<'a>>
+    ensures value { IsFresh (I.whole inputs.old) (I.left inputs.old)
+        → Tells (λ w. Warns (I.whole inputs.old) (asked_learn words.now).table None
+        (I.failed inputs.old) (I.reads inputs.old) (I.reads inputs.new) w
+        × CameTo (FindsLearnable (asked_learn words.now) (I.whole inputs.old) w
+        (I.failed inputs.old) (I.failed inputs.new)) result)
+        (sink (E.contents err.old) (E.failed err.old))
+        (sink (E.contents err.new) (E.failed err.new)) }
     ensures status { IfErr result (IsHonestOf (I.failed inputs.new) (I.reads inputs.new)) }
-    ensures turn { AreReadInTurn
-        (some_path (asked_learn request.now).update ++ (asked_learn request.now).logs)
+    ensures turn { AreReadInTurn (learn_paths (asked_learn words.now))
         (I.reads inputs.old) (I.reads inputs.new) }
+{
+    let Some(factor) = Factor::read(words.factor.as_bytes()) else {
+        return Ok(None);
+    };
+    let tables = find_tables(alloc, inputs, err, words.table, None)?;
+    let log = logs_at(alloc, inputs, words.logs.as_slice(), &tables)?;
+    Ok(Some(Learnable {
+        factor,
+        tables,
+        log,
+    }))
+}
+
+/// Answers `learn TABLE LOG.. [--factor F]`. The only error is want of memory.
+pub fn answer_learn(
+    alloc: Global,
+    factor: &str,
+    found: &Option<Learnable>,
+) -> Result<Response, AllocError>
+    ensures printed { IfOk result (PrintsLearned factor.now found.now) }
     ensures done { IfOk result (λ r. r.status ≢ 6) }
 {
-    let old = old_at(alloc, inputs, request.update)?;
-    let log = logs_at(
-        alloc,
-        inputs,
-        request.logs.as_slice(),
-        tables.0.lines(),
-        places,
-    )?;
-    Ok(show(alloc, tables, places, offset, &old, &log, factor)?)
-}
-
-/// What is answered where the factor is one.
-fn learn_tables<I: Inputs>(
-    alloc: Global,
-    request: &LearnWords<'_>,
-    factor: Factor,
-    offset: i16,
-    inputs: &mut I,
-) -> Result<Response, RanOut>
-    ensures value { IsFresh (I.whole inputs.old) (I.left inputs.old)
-        → IfOk result (LearnsTables (asked_learn request.now) offset factor (I.whole inputs.old)
-        (I.failed inputs.old) (I.failed inputs.new)) }
-    ensures status { IfOk result (IsHonest (I.failed inputs.new) (I.reads inputs.new)) }
-    ensures warned { IsFresh (I.whole inputs.old) (I.left inputs.old)
-        → IfErr result (λ e. IsWarned (I.whole inputs.old) (asked_learn request.now).table None
-        (I.failed inputs.old) (I.reads inputs.old) (I.reads inputs.new) e.warnings) }
-    ensures turn { AreReadInTurn (learn_paths (asked_learn request.now))
-        (I.reads inputs.old) (I.reads inputs.new) }
-{
-    let read = read_placed_tables(alloc, inputs, request.table, None);
-    let (tables, places) = match read {
-        Ok(found) => found,
-        Err(fault) => return Ok(fault.response(alloc, b"".as_slice())?),
+    let Some(found) = found else {
+        return no_factor(alloc, factor);
     };
-    let warnings = warnings(alloc, &tables.0, &tables.1)?;
-    match learned_of(
-        alloc,
-        inputs,
-        request,
-        factor,
-        offset,
-        &tables,
-        places.as_slice(),
-    ) {
-        Ok(answer) => answer.behind(warnings),
-        Err(fault) => fault.response_behind(alloc, warnings),
-    }
-}
-
-/// The answer to `learn TABLE LOG.. [--factor F] [--update OLD]`, where clocks are ahead of UTC by
-/// `offset` minutes.
-pub fn answer_learn<I: Inputs>(
-    alloc: Global,
-    request: &LearnWords<'_>,
-    offset: i16,
-    inputs: &mut I,
-) -> Result<Response, RanOut>
-    ensures value { IsFresh (I.whole inputs.old) (I.left inputs.old)
-        → IfOk result (AnswersLearn (asked_learn request.now) offset (I.whole inputs.old)
-        (I.failed inputs.old) (I.failed inputs.new)) }
-    ensures status { IfOk result (IsHonest (I.failed inputs.new) (I.reads inputs.new)) }
-    ensures warned { IsFresh (I.whole inputs.old) (I.left inputs.old)
-        → IfErr result (λ e. IsWarned (I.whole inputs.old) (asked_learn request.now).table None
-        (I.failed inputs.old) (I.reads inputs.old) (I.reads inputs.new) e.warnings) }
-    ensures turn { AreReadInTurn (learn_paths (asked_learn request.now))
-        (I.reads inputs.old) (I.reads inputs.new) }
-{
-    match Factor::read(request.factor.as_bytes()) {
-        Some(factor) => learn_tables(alloc, request, factor, offset, inputs),
-        None => Ok(no_factor(alloc, request.factor)?),
+    let lines = found.tables.crontab.lines();
+    let places = found.tables.places.as_slice();
+    match learn(alloc, lines, &found.log, found.factor)? {
+        Some(text) => {
+            let told = summary_of(alloc, lines, places, &found.log, found.factor)?;
+            Ok(Response::done(text, told))
+        }
+        None => nothing_learned(alloc),
     }
 }

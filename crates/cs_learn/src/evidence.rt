@@ -1,11 +1,6 @@
 //! What is known of a job's runs.
-ghost use Rattle.std.specs.Prelude.{◌≡◌, ◌<◌, ◌≤◌, ◌+◌, ◌-◌, ◌^◌, ◌++◌, ◌∷◌, [], ℕ, List, IfOk, IfSome, IsNone, ◌⊎◌, ◌*◌, length, slice_index, sum, ◌↔◌, IsTrue};
-ghost use Rattle.cs_learn.specs.Evidence.{longer, place_of, IsMedian, IsOf};
-
-use crate::limits::FEW_RUNS;
 use cs_retrace::Moment;
 use std::alloc::{AllocError, Global};
-use std::marker::Model;
 
 /// How many counts there are: of runs of 1 to 4,320 minutes, and of longer ones.
 const PLACES: usize = 4_321;
@@ -24,155 +19,72 @@ pub struct Ran {
 /// What is known of a job's runs.
 #[derive(Drop)]
 pub struct Evidence {
-    by_minutes: Vec<u64>,
-    number: u64,
-    one_longest: Option<Ran>,
-    unended: u64,
-    longest_open: Option<Ran>,
-}
-
-impl Model for Evidence {
-    ghost use Rattle.std.specs.Prelude.{◌≡◌, length};
-    ghost use Rattle.cs_learn.specs.Evidence.{Known};
-
-    ghost Value = { Known };
-
-    ghost view = { λ e. record {
-      counts = e.by_minutes.items;
-      runs = e.number;
-      longest = e.one_longest;
-      unended = e.unended;
-      longest_open = e.longest_open;
-    } };
-
-    ghost invariant = { λ e. length e.by_minutes.items ≡ 4_321 };
-}
-
-/// The place of a run's count: 0 for at most a minute, 4,320 for more than 4,320 minutes.
-fn place(seconds: u64) -> usize
-    ensures value { result ≡ place_of seconds }
-    ensures small { result < 4_321 }
-{
-    (seconds.saturating_sub(1) / 60).min(4_320) as usize
-}
-
-/// So many zeros.
-fn zeros(alloc: Global, places: usize) -> Result<Vec<u64>, AllocError>
-    ensures { IfOk result (λ v. (length v.items ≡ places)
-        × ((place : ℕ) → place < places → slice_index v.items place ≡ 0)) }
-{
-    Ok(vec![in alloc; 0; places]?)
+    /// How many runs took so many minutes, rounded up, from 1 on; at last, how many took longer.
+    counts: Vec<u64>,
+    /// How many have ended.
+    pub count: u64,
+    /// The first of the longest runs that have ended, if there is one.
+    pub longest: Option<Ran>,
+    /// How many starts have no end.
+    pub unended: u64,
+    /// The first of the starts without an end since which the longest time has passed, if there is one.
+    pub longest_open: Option<Ran>,
 }
 
 impl Evidence {
-    /// Returns what is known before any run. The only error is out of memory.
-    pub fn new(alloc: Global) -> Result<Evidence, AllocError>
-        ensures { IfOk result (λ evidence. IsOf evidence []) }
-    {
+    /// What is known before any run. The only error is out of memory.
+    pub(crate) fn new(alloc: Global) -> Result<Evidence, AllocError> {
         Ok(Evidence {
-            by_minutes: zeros(alloc, PLACES)?,
-            number: 0,
-            one_longest: None,
+            counts: vec![in alloc; 0; PLACES]?,
+            count: 0,
+            longest: None,
             unended: 0,
             longest_open: None,
         })
     }
 
     /// Takes one more run.
-    pub fn add(&mut self, run: Ran)
-        ensures { (runs : List Ran) → length runs < 2 ^ 63 → IsOf self.old runs
-            → IsOf self.new (runs ++ run ∷ []) }
-    {
+    pub(crate) fn add(&mut self, run: Ran) {
         if !run.has_ended {
             self.unended = self.unended.saturating_add(1);
             self.longest_open = longer(self.longest_open, run);
             return;
         }
-        let place = place(run.seconds);
-        self.by_minutes[place] = self.by_minutes[place].saturating_add(1);
-        self.number = self.number.saturating_add(1);
-        self.one_longest = longer(self.one_longest, run);
-    }
-
-    /// Returns how many starts there were without an end.
-    pub fn unended(&self) -> u64
-        ensures { result ≡ self.now.unended }
-    {
-        self.unended
-    }
-
-    /// Returns one of the starts without an end since which the longest time has passed, or `None`
-    /// if there was none.
-    pub fn longest_open(&self) -> Option<Ran>
-        ensures { result ≡ self.now.longest_open }
-    {
-        self.longest_open
-    }
-
-    /// Returns how many runs there were that have ended.
-    pub fn count(&self) -> u64
-        ensures { result ≡ self.now.runs }
-    {
-        self.number
-    }
-
-    /// Checks whether there were fewer than [`FEW_RUNS`](crate::FEW_RUNS) runs.
-    pub fn is_thin(&self) -> bool
-        ensures { IsTrue result ↔ (self.now.runs < FEW_RUNS) }
-    {
-        self.number < FEW_RUNS
-    }
-
-    /// Returns one of the longest runs that have ended, or `None` if there was none.
-    pub fn longest(&self) -> Option<Ran>
-        ensures { result ≡ self.now.longest }
-    {
-        self.one_longest
-    }
-
-    /// Returns the median of the runs in minutes, rounded up: at least half of the runs took at most
-    /// so long, and fewer than half took less. 4,321 stands for more than 4,320 minutes, and `None`
-    /// for no run.
-    pub fn median(&self) -> Option<u16>
-        ensures value { IfSome result (IsMedian self.now) }
-        ensures none { IsNone result → (self.now.runs ≡ 0)
-            ⊎ (2 * sum self.now.counts < self.now.runs) }
-    {
-        if self.number == 0 {
-            return None;
+        let place = (run.seconds.saturating_sub(1) / 60).min(4_320) as usize;
+        if let Some(count) = self.counts.get_mut(place) {
+            *count = count.saturating_add(1);
         }
-        let mut seen = 0u128;
-        let mut minutes = 0u16;
-        for count in self.by_minutes.as_slice() {
-            seen += u128::from(*count);
-            minutes += 1;
-            if u128::from(self.number) <= 2 * seen {
-                return Some(minutes);
+        self.count = self.count.saturating_add(1);
+        self.longest = longer(self.longest, run);
+    }
+
+    /// The median of the runs in minutes, rounded up: at least half of the runs took at most so long,
+    /// and fewer than half took less. 4,321 stands for more than 4,320 minutes, and `None` for no run.
+    pub(crate) fn median(&self) -> Option<usize> {
+        let mut seen = 0u64;
+        for (place, count) in self.counts.iter().enumerate() {
+            seen = seen.saturating_add(*count);
+            if seen > 0 && self.count <= seen.saturating_mul(2) {
+                return Some(place.saturating_add(1));
             }
         }
         None
     }
 
-    /// Returns how many runs took so many minutes, rounded up: 4,321 stands for all longer ones.
-    pub fn count_of(&self, minutes: u16) -> u64
-        requires low { 1 ≤ minutes }
-        requires high { minutes ≤ 4_321 }
-        ensures { result ≡ slice_index self.now.counts (minutes - 1) }
-    {
-        self.by_minutes[usize::from(minutes) - 1]
+    /// How many runs took longer than so many minutes, at most 4,320.
+    pub(crate) fn longer_than(&self, minutes: u16) -> u64 {
+        let mut longer = 0u64;
+        for count in self.counts.iter().skip(usize::from(minutes)) {
+            longer = longer.saturating_add(*count);
+        }
+        longer
     }
 }
 
 /// The longer of two runs: where both took as long, the first.
-fn longer(longest: Option<Ran>, run: Ran) -> Option<Ran>
-    ensures { result ≡ longer longest run }
-{
+fn longer(longest: Option<Ran>, run: Ran) -> Option<Ran> {
     match longest {
-        Some(other) => if other.seconds < run.seconds {
-            Some(run)
-        } else {
-            longest
-        },
-        None => Some(run),
+        Some(other) if other.seconds >= run.seconds => longest,
+        _ => Some(run),
     }
 }

@@ -1,80 +1,144 @@
 //! What a line of a log says of a run.
-ghost use Rattle.std.specs.Prelude.{◌≡◌, ◌==◌, IfOk};
-ghost use Rattle.cs_learn.specs.Own.{of_own, own_parts};
-ghost use Rattle.cs_learn.specs.LogLine.{log_line, syslog_in, timed_in, behind_time};
-
 use crate::journal::journal;
-use crate::log_line::{LogLine, RunName, Sign};
-use crate::own::own_parts;
-use crate::told::told;
 use cs_civil::Bytes;
 use cs_retrace::Moment;
 use cs_retrace::stamp::{moment_of_year, time_and_rest};
+use cs_retrace::told::{Verb, told};
+use cs_retrace::words::{behind, is_word, number, split};
 use std::alloc::{AllocError, Global};
 
-/// A line of syslog, whose time doesn't tell the year.
-#[tactic(auto, unfolding(crate::specs::LogLine::syslog_in))]
-fn syslog(alloc: Global, text: &[u8]) -> Result<Option<LogLine>, AllocError>
-    ensures { IfOk result (λ line. line ≡ syslog_in text.now) }
-{
-    if text.len() < 16 {
+/// Whether a run begins or ends.
+#[derive(Clone, Copy)]
+pub enum Sign {
+    /// It begins.
+    Begin,
+    /// It ends.
+    End,
+    /// It ends, and the line was written by the parent of its process.
+    EndByParent,
+}
+
+/// What a line of a log says of a run.
+#[derive(Drop)]
+pub struct LogLine {
+    /// When the line was written.
+    pub at: Moment,
+    /// Whether the run begins or ends.
+    pub sign: Sign,
+    /// The number of its process, or of its parent's: in this program's log, of its line.
+    pub number: u64,
+    /// In this program's log the minute in which it was due, since 1970-01-01 00:00.
+    pub due: Option<u64>,
+    /// Its user, empty where the log doesn't tell.
+    pub user: Bytes,
+    /// Its command as the log has it, empty where the log doesn't tell.
+    pub command: Bytes,
+    /// Whether it is a line of this program's log, which lists the commands of its table.
+    pub is_listed: bool,
+}
+
+/// The user, whether the run begins or ends, and what stands in the second parentheses: `CMD` where it
+/// begins, `END` (Debian's cron) and `CMDEND` (cronie) where it ends.
+fn message_parts(text: &[u8]) -> Option<(&[u8], Sign, &[u8])> {
+    let (user, rest) = split(b')', behind(b"(", text)?)?;
+    let (word, rest) = split(b'(', rest)?;
+    let sign = match word {
+        _ if is_word(word, b" CMD ") => Sign::Begin,
+        _ if is_word(word, b" END ") => Sign::EndByParent,
+        _ if is_word(word, b" CMDEND ") => Sign::EndByParent,
+        _ => return None,
+    };
+    Some((user, sign, rest.strip_suffix(b")".as_slice())?))
+}
+
+/// The number of the job's own process, and the command, of a text such as `[4321] command`.
+fn numbered(text: &[u8]) -> Option<(u64, &[u8])> {
+    let (digits, rest) = split(b']', behind(b"[", text)?)?;
+    Some((number(digits)?, behind(b" ", rest)?))
+}
+
+/// What a message of cron such as `(root) CMD (command)` says, written by the process of that number. An
+/// end with the job's own number names the run as its beginning does.
+pub(crate) fn message(
+    alloc: Global,
+    at: Moment,
+    writer: u64,
+    text: &[u8],
+) -> Result<Option<LogLine>, AllocError> {
+    let Some((user, sign, text)) = message_parts(text) else {
         return Ok(None);
+    };
+    let (sign, number, command) = match (numbered(text), sign) {
+        (None, _) => (sign, writer, text),
+        (Some((own, command)), Sign::Begin) => (Sign::Begin, own, command),
+        (Some((own, command)), _) => (Sign::End, own, command),
+    };
+    Ok(Some(LogLine {
+        at,
+        sign,
+        number,
+        due: None,
+        user: Bytes::from_slice(alloc, user)?,
+        command: Bytes::from_slice(alloc, command)?,
+        is_listed: false,
+    }))
+}
+
+/// The number of the process that wrote the line, and its message, of `host CRON[1234]: message`.
+fn tagged(text: &[u8]) -> Option<(u64, &[u8])> {
+    let (_host, rest) = split(b' ', text)?;
+    let (name, rest) = split(b'[', rest)?;
+    let (digits, rest) = split(b']', rest)?;
+    if !is_word(name, b"CRON") && !is_word(name, b"CROND") {
+        return None;
     }
-    match moment_of_year(&text[0..15]) {
-        Some(at) => if text[15] == b' ' {
-            told(alloc, at, &text[16..])
-        } else {
-            Ok(None)
-        },
+    Some((number(digits)?, behind(b": ", rest)?))
+}
+
+/// What a line of cron says behind its time.
+fn of_cron(alloc: Global, at: Moment, text: &[u8]) -> Result<Option<LogLine>, AllocError> {
+    match tagged(text) {
         None => Ok(None),
+        Some((writer, text)) => message(alloc, at, writer, text),
     }
 }
 
-fn of_own(alloc: Global, at: Moment, parts: (Sign, RunName)) -> LogLine
-    ensures { result ≡ of_own at parts }
-{
-    LogLine {
+/// What a line of this program's log says behind its time of a run of a crontab's line.
+fn of_own(alloc: Global, at: Moment, text: &[u8]) -> Option<LogLine> {
+    let run = told(text)?;
+    let sign = match run.verb {
+        Verb::Started => Sign::Begin,
+        Verb::Ended => Sign::End,
+        _ => return None,
+    };
+    Some(LogLine {
         at,
-        sign: parts.0,
-        name: parts.1,
+        sign,
+        number: run.line?,
+        due: Some(run.at),
         user: Bytes::new(alloc),
         command: Bytes::new(alloc),
         is_listed: false,
-    }
+    })
 }
 
-fn behind_time(alloc: Global, at: Moment, text: &[u8]) -> Result<Option<LogLine>, AllocError>
-    ensures { IfOk result (λ line. line ≡ behind_time at text.now (own_parts text.now)) }
-{
-    match own_parts(text) {
-        Some(parts) => Ok(Some(of_own(alloc, at, parts))),
-        None => told(alloc, at, text),
-    }
-}
-
-/// A line behind an RFC 3339 time.
-#[tactic(auto, unfolding(crate::specs::LogLine::timed_in))]
-fn timed(alloc: Global, text: &[u8]) -> Result<Option<LogLine>, AllocError>
-    ensures { IfOk result (λ line. line ≡ timed_in text.now) }
-{
-    match time_and_rest(text) {
-        Some((at, rest)) => behind_time(alloc, at, rest),
-        None => Ok(None),
-    }
-}
-
-/// Returns what a line of a log says of a run, without its newline: `None` where it says nothing.
+/// What a line of a log says of a run, without its newline: `None` where it says nothing.
 ///
 /// Lines of Debian's cron and cronie through syslog, with a time of RFC 3339 in place of syslog's
 /// too, through `journalctl -o json`, and of this program's own log. The only error is out of
 /// memory.
-#[tactic(auto, unfolding(crate::specs::LogLine::log_line))]
-pub fn read_line(alloc: Global, text: &[u8]) -> Result<Option<LogLine>, AllocError>
-    ensures { IfOk result (λ line. line ≡ log_line text.now) }
-{
-    match text {
-        [b'{', ..] => journal(alloc, text),
-        [b'0'..=b'9', ..] => timed(alloc, text),
-        _ => syslog(alloc, text),
+pub(crate) fn read_line(alloc: Global, text: &[u8]) -> Result<Option<LogLine>, AllocError> {
+    if text.starts_with(b"{") {
+        return journal(alloc, text);
+    }
+    if let Some((at, words)) = time_and_rest(text) {
+        return match of_own(alloc, at, words) {
+            Some(line) => Ok(Some(line)),
+            None => of_cron(alloc, at, words),
+        };
+    }
+    match moment_of_year(text) {
+        Some((at, words)) => of_cron(alloc, at, words),
+        None => Ok(None),
     }
 }

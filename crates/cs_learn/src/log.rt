@@ -1,159 +1,252 @@
 //! Logs, read byte by byte.
-ghost use Rattle.std.specs.Prelude.{◌≡◌, ◌++◌, [], List, OnOk, Some, map};
-ghost use Rattle.cs_learn.specs.Learning.{Told, nothing, one_line};
-ghost use Rattle.cs_learn.specs.Log.{AreUnknown, IsReading, Reading, at_end, at_front, behind_byte, behind_bytes};
-ghost use Rattle.cs_learn.specs.Log.{HaveRuns, IsTaken, behind_line_end, closed, without_ends};
-ghost use Rattle.cs_learn.specs.declared.job.Job.{Job as TheJob};
-ghost use Rattle.cs_learn.specs.declared.open_runs.Ending.{Ending as TheEnding};
-ghost use Rattle.cs_learn.specs.declared.log_line.LogLine.{LogLine as TheLine};
+ghost use Rattle.std.specs.Prelude.{◌≡◌};
 
-use crate::job_evidence::{JobEvidence, take_run};
-use crate::learning::Learning;
-use crate::limits::{MAX_LINE, MAX_OPEN};
-use crate::log_line::LogLine;
-use crate::open_runs::{Ending, OpenRuns, without_end};
-use crate::tally::Tally;
+use crate::duration::passed;
+use crate::evidence::Ran;
+use crate::job::{Job, take_run};
+use crate::line::{LogLine, Sign, read_line};
+use cs_civil::Bytes;
+use cs_crontab::MAX_COMMANDS;
 use cs_retrace::Moment;
+use cs_retrace::stamp::time_and_rest;
+use cs_retrace::told::begins;
+use cs_retrace::words::{behind, number, split};
+use indexmap::IndexMap;
 use std::alloc::{AllocError, Global};
-use std::marker::Model;
 
-/// Reads logs byte by byte, in memory that doesn't grow with their length, for these jobs.
-#[derive(Drop)]
-pub struct Log {
-    learning: Learning,
-    open_line: Vec<u8>,
-    known: Vec<JobEvidence>,
+/// The longest line of a log that is read, in bytes.
+const MAX_LINE: usize = 8_192;
+
+/// Fewer runs than this are open: where they are as many, none of them has an end.
+const MAX_OPEN: usize = 4_096;
+
+/// How many lines of a log told what. No count goes past `u64::MAX`.
+#[derive(Clone, Copy)]
+pub struct Tally {
+    /// That a run began.
+    pub begun: u64,
+    /// That a run ended whose beginning another line told.
+    pub runs: u64,
+    /// That a run began whose end no line told.
+    pub unended: u64,
+    /// That a run ended whose beginning no line told.
+    pub no_beginning: u64,
+    /// That a run ended, by a clock that went back or doesn't tell how long it took.
+    pub unclear: u64,
+    /// They are too long to be read.
+    pub too_long: u64,
 }
 
-impl Model for Log {
-    ghost use Rattle.cs_learn.specs.Log.{LogState};
+impl Tally {
+    /// Whether lines tell of beginnings and none of an end, as in the log of Debian's cron at its default
+    /// log level (cron(8)).
+    pub(crate) fn has_no_ends(&self) -> bool {
+        self.begun > 0 && self.runs == 0 && self.no_beginning == 0 && self.unclear == 0
+    }
+}
 
-    ghost Value = { LogState };
+/// What logs tell of these jobs: read byte by byte, in memory that doesn't grow with their length.
+#[derive(Drop)]
+pub struct Log {
+    /// The runs that have begun and not ended, by number and due minute, with the lines of their beginnings.
+    open: IndexMap<(u64, u64), LogLine>,
+    /// When the last line of a run was written.
+    last: Moment,
+    /// The commands that this program's log lists of its daemon's table, by the numbers of their lines.
+    commands: IndexMap<u64, Bytes>,
+    /// How many lines told what.
+    pub tally: Tally,
+    line: Vec<u8>,
+    /// The jobs, and what is known of each.
+    jobs: Vec<Job>,
+}
 
-    ghost view = { λ l. record { state = l.learning; line = l.open_line.items; jobs = l.known.items } };
+/// What the log calls a run: 0 stands for no due minute.
+fn name(line: &LogLine) -> (u64, u64) {
+    (line.number, line.due.unwrap_or(0))
+}
+
+/// A run that has no end: it took all the time up to a later moment, as far as anyone knows, and more
+/// than any job may have where the clock doesn't tell.
+fn without_end(line: &LogLine, later: Moment) -> Ran {
+    Ran {
+        began: line.at,
+        seconds: passed(line.at, later).unwrap_or(u64::MAX),
+        has_ended: false,
+    }
+}
+
+/// The number and the command in `job line 3: COMMAND`.
+fn listed(text: &[u8]) -> Option<(u64, &[u8])> {
+    let (digits, rest) = split(b':', behind(b"job line ", text)?)?;
+    Some((number(digits)?, behind(b" ", rest)?))
 }
 
 impl Log {
-    /// Returns what is known of jobs before any log, without allocating: of each nothing is known yet.
-    pub fn new(alloc: Global, jobs: Vec<JobEvidence>) -> Log
-        ensures { (theirs : List TheJob) → AreUnknown theirs jobs.items
-            → IsReading theirs (at_front nothing) result }
-    {
+    /// What is known of jobs before any log, without allocating.
+    pub(crate) fn new(alloc: Global, jobs: Vec<Job>) -> Log {
         Log {
-            learning: Learning::new(alloc),
-            open_line: Vec::new(alloc),
-            known: jobs,
+            open: IndexMap::new(alloc),
+            last: Moment::Universal(0),
+            commands: IndexMap::new(alloc),
+            tally: Tally {
+                begun: 0,
+                runs: 0,
+                unended: 0,
+                no_beginning: 0,
+                unclear: 0,
+                too_long: 0,
+            },
+            line: Vec::new(alloc),
+            jobs,
         }
     }
 
-    /// Returns the jobs in their order, and what is known of each.
-    pub fn jobs(&self) -> &[JobEvidence]
-        ensures { result.now ≡ self.now.jobs }
+    /// The jobs, and what is known of each.
+    pub(crate) fn jobs(&self) -> &[Job]
+        ensures { result.now ≡ self.now.jobs.items }
     {
-        self.known.as_slice()
+        self.jobs.as_slice()
     }
 
-    /// Returns how many lines told what.
-    pub fn tally(&self) -> Tally
-        ensures { result ≡ self.now.state.tally }
-    {
-        self.learning.tally()
-    }
-
-    fn take_line(&mut self, alloc: Global) -> Result<(), AllocError>
-        ensures { (jobs : List TheJob) (reading : Reading) → IsReading jobs reading self.old
-            → OnOk result
-            (IsReading jobs (at_front (one_line reading.told reading.line)) self.new) }
-    {
-        let told = self.learning.line(alloc, self.open_line.as_slice())?;
-        self.open_line.clear();
-        take_told(&mut self.known, told);
+    /// Takes a beginning. It takes the place of a run of its name, since numbers are used again.
+    fn begin(&mut self, line: LogLine) -> Result<(), AllocError> {
+        self.last = line.at;
+        self.tally.begun = self.tally.begun.saturating_add(1);
+        if let Some(run) = self.open.insert(name(&line), line)? {
+            self.tally.unended = self.tally.unended.saturating_add(1);
+            take_run(&mut self.jobs, &run, without_end(&run, self.last));
+        }
         Ok(())
     }
 
-    fn end_line(&mut self, alloc: Global) -> Result<(), AllocError>
-        ensures { (jobs : List TheJob) (reading : Reading) → IsReading jobs reading self.old
-            → OnOk result (IsReading jobs (behind_line_end reading) self.new) }
-    {
-        self.take_line(alloc)?;
-        if self.learning.opens().count() >= MAX_OPEN {
+    /// The open run of the same user and command that a line ends: of its number, or of the next that
+    /// there is, since a parent that tells of an end got its number before the job's process did.
+    fn nearest(&self, line: &LogLine) -> Option<(u64, u64)> {
+        let (first, due) = name(line);
+        let steps = match line.sign {
+            Sign::EndByParent => 1_000u64,
+            _ => 1,
+        };
+        for step in 0..steps {
+            let name = (first.saturating_add(step), due);
+            if let Some(run) = self.open.get(&name) {
+                if run.user.as_slice() == line.user.as_slice()
+                    && run.command.as_slice() == line.command.as_slice()
+                {
+                    return Some(name);
+                }
+            }
+        }
+        None
+    }
+
+    fn end_run(&mut self, line: &LogLine) {
+        self.last = line.at;
+        let began = match self.nearest(line) {
+            Some(name) => self.open.shift_remove(&name),
+            None => None,
+        };
+        let Some(run) = began else {
+            self.tally.no_beginning = self.tally.no_beginning.saturating_add(1);
+            return;
+        };
+        let Some(seconds) = passed(run.at, line.at) else {
+            self.tally.unclear = self.tally.unclear.saturating_add(1);
+            return;
+        };
+        self.tally.runs = self.tally.runs.saturating_add(1);
+        let ran = Ran {
+            began: run.at,
+            seconds,
+            has_ended: true,
+        };
+        take_run(&mut self.jobs, line, ran);
+    }
+
+    /// Takes a line on a run, with the command that is listed for it, if a table is listed.
+    fn take(&mut self, alloc: Global, line: LogLine) -> Result<(), AllocError> {
+        let mut line = line;
+        if self.commands.len() > 0 && line.due.is_some() {
+            line.is_listed = true;
+            line.command = match self.commands.get(&line.number) {
+                Some(command) => Bytes::from_slice(alloc, command.as_slice())?,
+                None => Bytes::new(alloc),
+            };
+        }
+        match line.sign {
+            Sign::Begin => self.begin(line),
+            _ => {
+                self.end_run(&line);
+                Ok(())
+            }
+        }
+    }
+
+    /// Takes a line that tells nothing of a run, if it lists a command. A daemon that begins lists all
+    /// anew.
+    fn take_other(&mut self, alloc: Global) -> Result<(), AllocError> {
+        let Some((_at, words)) = time_and_rest(self.line.as_slice()) else {
+            return Ok(());
+        };
+        if begins(words) {
+            self.commands.clear();
+            return Ok(());
+        }
+        let Some((number, command)) = listed(words) else {
+            return Ok(());
+        };
+        if self.commands.len() < MAX_COMMANDS {
+            let command = Bytes::from_slice(alloc, command)?;
+            self.commands.insert(number, command)?;
+        }
+        Ok(())
+    }
+
+    fn end_line(&mut self, alloc: Global) -> Result<(), AllocError> {
+        if self.line.len() > MAX_LINE {
+            self.tally.too_long = self.tally.too_long.saturating_add(1);
+        } else if let Some(line) = read_line(alloc, self.line.as_slice())? {
+            self.take(alloc, line)?;
+        } else {
+            self.take_other(alloc)?;
+        }
+        self.line.clear();
+        if self.open.len() >= MAX_OPEN {
             self.close();
         }
         Ok(())
     }
 
     /// Takes the end of all logs, which tell no end of what is open.
-    pub fn close(&mut self)
-        ensures { (jobs : List TheJob) (told : Told) → IsReading jobs (at_front told) self.old
-            → IsReading jobs (at_front (closed told)) self.new }
-    {
-        take_open(&mut self.known, self.learning.opens(), self.learning.last());
-        self.learning.close();
-    }
-
-    fn byte(&mut self, alloc: Global, byte: u8) -> Result<(), AllocError>
-        ensures { (jobs : List TheJob) (reading : Reading) → IsReading jobs reading self.old
-            → OnOk result (IsReading jobs (behind_byte reading byte) self.new) }
-    {
-        if byte == b'\n' {
-            return self.end_line(alloc);
+    pub(crate) fn close(&mut self) {
+        for place in 0..self.open.len() {
+            if let Some((_name, line)) = self.open.get_index(place) {
+                take_run(&mut self.jobs, line, without_end(line, self.last));
+            }
         }
-        if self.open_line.len() <= MAX_LINE {
-            self.open_line.push(byte)?;
-        }
-        Ok(())
+        self.tally.unended = self.tally.unended.saturating_add(self.open.len() as u64);
+        self.open.clear();
     }
 
     /// Takes the next bytes of a log. The only error is out of memory, after which nothing is known.
-    pub fn bytes(&mut self, alloc: Global, bytes: &[u8]) -> Result<(), AllocError>
-        ensures { (jobs : List TheJob) (reading : Reading) → IsReading jobs reading self.old
-            → OnOk result (IsReading jobs (behind_bytes reading bytes.now) self.new) }
-    {
+    pub(crate) fn bytes(&mut self, alloc: Global, bytes: &[u8]) -> Result<(), AllocError> {
         for byte in bytes {
-            self.byte(alloc, *byte)?;
+            if *byte == b'\n' {
+                self.end_line(alloc)?;
+            } else if self.line.len() <= MAX_LINE {
+                self.line.push(*byte)?;
+            }
         }
         Ok(())
     }
 
     /// Takes the end of a log, which ends a last line without a newline. The only error is out of
     /// memory, after which nothing is known.
-    pub fn end(&mut self, alloc: Global) -> Result<(), AllocError>
-        ensures { (jobs : List TheJob) (reading : Reading) → IsReading jobs reading self.old
-            → OnOk result (IsReading jobs (at_end reading) self.new) }
-    {
-        if self.open_line.is_empty() {
+    pub(crate) fn end(&mut self, alloc: Global) -> Result<(), AllocError> {
+        if self.line.is_empty() {
             return Ok(());
         }
         self.end_line(alloc)
-    }
-}
-
-fn take_ending(known: &mut Vec<JobEvidence>, line: &LogLine, ending: Ending)
-    ensures { IsTaken (Some (line.now, ending)) known.old.items known.new.items }
-{
-    if let Ending::Run(run) = ending {
-        take_run(known, line, run);
-    }
-}
-
-/// Has each job take the runs that are open at a later moment.
-fn take_open(known: &mut Vec<JobEvidence>, opens: &OpenRuns, later: Moment)
-    ensures jobs { map (λ j. j.job) known.new.items ≡ map (λ j. j.job) known.old.items }
-    ensures runs { (ends : List (TheLine × TheEnding)) → HaveRuns ends known.old.items
-        → HaveRuns (ends ++ without_ends later opens.now) known.new.items }
-{
-    for place in 0..opens.count() {
-        if let Some(line) = opens.at(place) {
-            take_ending(known, line, without_end(later, line));
-        }
-    }
-}
-
-/// Takes what a line tells of an end, if it does.
-fn take_told(known: &mut Vec<JobEvidence>, told: Option<(LogLine, Ending)>)
-    ensures { IsTaken told known.old.items known.new.items }
-{
-    if let Some(told) = told {
-        take_ending(known, &told.0, told.1);
     }
 }

@@ -1,47 +1,9 @@
 //! A command as cron logs it.
-ghost use Rattle.std.specs.Prelude.{◌≡◌, ◌++◌, false, IfOk, OnOk};
-ghost use Rattle.cs_learn.specs.Logged.{after_backslash, logged, run_part, shown};
-
-use cs_civil::{Bytes, Sequence};
+use cs_civil::Bytes;
 use std::alloc::{AllocError, Global};
 
-/// Adds a byte with a backslash in front.
-fn push_escaped(part: &mut Vec<u8>, debian: bool, byte: u8) -> Result<(), AllocError>
-    ensures { OnOk result (part.new.items ≡ part.old.items ++ after_backslash debian byte) }
-{
-    if byte == b'%' || debian && byte == b'\\' {
-        return part.extend_from_slice(&[byte]);
-    }
-    part.extend_from_slice(&[b'\\', byte])
-}
-
-/// The part of a command that cron runs.
-fn run_part(alloc: Global, debian: bool, command: &[u8]) -> Result<Vec<u8>, AllocError>
-    ensures { IfOk result (λ part. part.items ≡ run_part debian false command.now) }
-{
-    let mut part = Vec::new(alloc);
-    let mut escaped = false;
-    for byte in command {
-        if escaped {
-            push_escaped(&mut part, debian, *byte)?;
-            escaped = false;
-        } else if *byte == b'%' {
-            return Ok(part);
-        } else if *byte == b'\\' {
-            escaped = true;
-        } else {
-            part.push(*byte)?;
-        }
-    }
-    if escaped {
-        part.push(b'\\')?;
-    }
-    Ok(part)
-}
-
-fn push_shown(text: &mut Vec<u8>, byte: u8) -> Result<(), AllocError>
-    ensures { OnOk result (text.new.items ≡ text.old.items ++ shown byte) }
-{
+/// Adds a byte: `^I`, `^?` or `\303` where it can't be printed.
+fn push_shown(text: &mut Vec<u8>, byte: u8) -> Result<(), AllocError> {
     if byte < 32 {
         return text.extend_from_slice(&[b'^', byte + 64]);
     }
@@ -59,17 +21,26 @@ fn push_shown(text: &mut Vec<u8>, byte: u8) -> Result<(), AllocError>
     ])
 }
 
-/// Returns a command of a crontab as cron logs it: Debian's cron, or cronie.
-///
-/// The log has what is run, the part up to the first `%` without a backslash, with bytes that can't
-/// be printed as `^I`, `^?` or `\303`. The only error is out of memory.
-pub fn logged(alloc: Global, debian: bool, command: &[u8]) -> Result<Bytes, AllocError>
-    ensures { IfOk result (λ text. text ≡ logged debian command.now) }
-{
-    let part = run_part(alloc, debian, command)?;
+/// A command of a crontab as cron logs it, Debian's cron or cronie: what is run, the part up to the first
+/// `%` without a backslash. A backslash in front of `%` is left out, and by Debian's cron one in front of
+/// a backslash too. The only error is out of memory.
+pub(crate) fn logged(alloc: Global, debian: bool, command: &[u8]) -> Result<Bytes, AllocError> {
     let mut text = Vec::new(alloc);
-    for byte in part.as_slice() {
-        push_shown(&mut text, *byte)?;
+    let mut escaped = false;
+    for byte in command {
+        if *byte == b'%' && !escaped {
+            return Ok(Bytes::from_vec(text));
+        }
+        if escaped && *byte != b'%' && !(debian && *byte == b'\\') {
+            text.push(b'\\')?;
+        }
+        escaped = *byte == b'\\' && !escaped;
+        if !escaped {
+            push_shown(&mut text, *byte)?;
+        }
     }
-    Ok(Sequence::from_vec(text))
+    if escaped {
+        text.push(b'\\')?;
+    }
+    Ok(Bytes::from_vec(text))
 }

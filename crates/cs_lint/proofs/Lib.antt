@@ -1,5 +1,1 @@
-pub mod FirstLemmas
-pub mod EachLemmas
-pub mod OddLemmas
-pub mod WantedLemmas
 pub mod AnswerLemmas

@@ -1,17 +1,15 @@
 -- What is answered to `lint`.
-use Rattle.std.specs.Prelude.{◌≡◌, ◌≢◌, ◌≤◌, ◌<◌, ◌⊎◌, ◌++◌, ℕ, ℤ, false, true, List, [], Option, Some, None, IfSome}
-use Rattle.std.specs.Prelude.{Contains, length, map}
+use Rattle.std.specs.Prelude.{◌≡◌, ◌≢◌, ◌≤◌, ◌<◌, ◌⊎◌, ◌++◌, ℕ, false, true, List, [], Option, Some, None, IfSome}
+use Rattle.std.specs.Prelude.{Contains, IsErr, is_none, length}
+use Rattle.std.specs.List.{list_any}
 use Rattle.clap.specs.Words.{Text}
+use Rattle.jiff_tz.specs.Tzif.{HasBadRule}
+use Rattle.jiff_tz.specs.TzifReader.{read_tzif}
 use Rattle.cs_table.specs.declared.limits.TheConstants.{MAX_TABLE}
 use Rattle.cs_explain.specs.Odd.{odd_named}
 use Rattle.cs_args.specs.Asked.{AskedLint}
 use Rattle.cs_io.specs.Files.{Failed, IsUpTo}
-use Rattle.cs_lint.specs.Changes.{AreNoZone}
-use Rattle.cs_lint.specs.Odd.{is_odd_table}
 use Rattle.cs_lint.specs.Refused.{Judges}
-use Rattle.cs_lint.specs.declared.report.Verdict.{Verdict}
-use Rattle.cs_lint.specs.declared.report.Verdict.TheVariants.{Clean, Odd, Faulty}
-use Rattle.cs_lint.specs.declared.wanted.Wanted.{Wanted}
 use Rattle.cs_files.specs.Response.{Ending}
 use Rattle.cs_files.specs.Trouble.{NoTimeZone, TellsPath, Trouble, ends, trouble}
 use Rattle.cs_files.specs.declared.fault.Fault.{Fault}
@@ -28,17 +26,10 @@ abbrev pub IfAllKnown : (List ℕ → Option (List ℕ)) → AskedLint
 IfAllKnown files a R = IfSome (files a.table) (λ table. IfKnown files a.anacrontab (λ jobs.
     IfKnown files a.declarations (λ declarations. R table jobs declarations)))
 
--- the status where nothing was found, where odd things alone were, and where a fault was among them
-abbrev pub verdict_status : Verdict → ℕ
-verdict_status Clean = 0
-verdict_status Odd = 1
-verdict_status Faulty = 3
-
--- all that was found is told on standard output alone, and the status is that of a verdict
-abbrev pub IsLinted : (Verdict → Type 0) → Ending → Type 0
-IsLinted Judged ending =
-    (ending.err ≡ []) × ((verdict : Verdict) × (ending.status ≡ verdict_status verdict)
-    × Judged verdict)
+-- all that was found is told on standard output alone, and the status judges the files
+abbrev pub IsLinted : List ℕ → Option (List ℕ) → Option (List ℕ) → Ending → Type 0
+IsLinted table jobs declarations ending =
+    (ending.err ≡ []) × Judges ending.status table jobs declarations
 
 -- a text is longer than a table may be
 abbrev pub IsLong : Option (List ℕ) → Type 0
@@ -48,37 +39,24 @@ IsLong (Some text) = MAX_TABLE < length text
 abbrev pub IsShort : Option (List ℕ) → Type 0
 IsShort text = IfSome text (λ bytes. length bytes ≤ MAX_TABLE)
 
--- this holds of the text of the crontab, where both tables aren't too long
-abbrev pub IfShort : (List ℕ → Option (List ℕ)) → AskedLint → (List ℕ → Type 0) → Type 0
+-- this holds where both tables aren't too long
+abbrev pub IfShort : (List ℕ → Option (List ℕ)) → AskedLint → Type 0 → Type 0
 IfShort files a R = IfSome (files a.table) (λ table. length table ≤ MAX_TABLE
-    → IfKnown files a.anacrontab (λ jobs. IsShort jobs → R table))
+    → IfKnown files a.anacrontab (λ jobs. IsShort jobs → R))
 
--- a text is no time zone file, or is too long for one
+-- a text is too long for a time zone file, doesn't keep its format, or its rule disagrees with its
+-- table
 abbrev pub IsNoZone : List ℕ → Type 0
-IsNoZone text = (MAX_TABLE < length text) ⊎ AreNoZone text
+IsNoZone text =
+    (MAX_TABLE < length text) ⊎ (IsErr (read_tzif text) ⊎ HasBadRule (read_tzif text))
 
--- these are the odd names that the words are but for the case of letters, in their order
-abbrev pub AreMeant : List Text → List (List ℕ) → Type 0
-AreMeant words names = map odd_named words ≡ map (λ name. Some name) names
-
--- each of the words is an odd name so
+-- each of the words is an odd name but for the case of letters
 abbrev pub AreNamed : List Text → Type 0
-AreNamed words = (names : List (List ℕ)) × AreMeant words names
+AreNamed words = list_any (λ word. is_none (odd_named word)) words ≡ false
 
 -- it is one of the words, and no odd name
 abbrev pub IsNoName : List Text → Text → Type 0
 IsNoName words word = Contains words word × (odd_named word ≡ None)
-
--- so are odd findings asked for
-pub record IsAsked (a : AskedLint) (wanted : Wanted) : Type 0 where
-  pub faults_only : wanted.faults_only ≡ a.faults_only
-  pub only : AreMeant a.only (map (λ name. name.now) wanted.only.now)
-  pub except : AreMeant a.except (map (λ name. name.now) wanted.except.now)
-
--- where the status is 0, nothing that is asked for is odd in a line of the crontab
-abbrev pub ToldOdd : AskedLint → (List ℕ → Option (List ℕ)) → Ending → Type 0
-ToldOdd a files ending = (wanted : Wanted) × IsAsked a wanted
-    × (ending.status ≡ 0 → IfSome (files a.table) (λ table. is_odd_table wanted table ≡ false))
 
 -- it is told that the file of a time zone is none
 abbrev pub TellsZone : Option Text → Trouble → Type 0
@@ -92,7 +70,7 @@ HasNoZone files path = IfKnown files path (λ zone. IfSome zone IsNoZone)
 abbrev pub IsUnreadable : AskedLint → (List ℕ → Option (List ℕ)) → Failed → Failed → Trouble
     → Type 0
 IsUnreadable a files before after t = ((path : Text) × TellsPath path t)
-    ⊎ ((after ≡ before) × TellsZone a.zone t × IfShort files a (λ table. HasNoZone files a.zone))
+    ⊎ ((after ≡ before) × TellsZone a.zone t × IfShort files a (HasNoZone files a.zone))
 
 -- what is answered of all files: what was found in them, where the status is 3 exactly where their
 -- readers refuse them, and isn't 1 where faults alone are told; or which of them can't be read, or
@@ -100,15 +78,15 @@ IsUnreadable a files before after t = ((path : Text) × TellsPath path t)
 abbrev pub LintsFiles : AskedLint → (List ℕ → Option (List ℕ)) → Failed → Failed → Ending
     → Type 0
 LintsFiles a files before after ending =
-    ((after ≡ before) × IsLinted (λ verdict. IfAllKnown files a (Judges verdict)) ending
-    × (a.faults_only ≡ true → ending.status ≢ 1) × ToldOdd a files ending)
+    ((after ≡ before) × (ending.err ≡ []) × IfAllKnown files a (Judges ending.status)
+    × (a.faults_only ≡ true → ending.status ≢ 1))
     ⊎ ((t : Trouble) × IsUnreadable a files before after t × (ending ≡ ends [] t))
 
 -- what is answered to `lint`: that a word is no odd name, at status 4 and before a file is read;
 -- else what is answered of all files
-abbrev pub AnswersLint : AskedLint → ℤ → (List ℕ → Option (List ℕ)) → Failed → Failed → Ending
+abbrev pub AnswersLint : AskedLint → (List ℕ → Option (List ℕ)) → Failed → Failed → Ending
     → Type 0
-AnswersLint a now files before after ending =
+AnswersLint a files before after ending =
     ((word : Text) × IsNoName (a.only ++ a.except) word × (after ≡ before) × (ending.status ≡ 4)
     × (ending.out ≡ []))
     ⊎ (AreNamed a.only × AreNamed a.except × LintsFiles a files before after ending)

@@ -1,41 +1,53 @@
 //! The changes of a zone's clocks.
-ghost use Rattle.std.specs.Prelude.{◌≡◌, Err, IfErr, IsErr};
+ghost use Rattle.std.specs.Prelude.{◌≡◌, Err, IfErr, IfSome, IsErr};
 ghost use Rattle.jiff_tz.specs.TzifReader.{read_tzif};
-ghost use Rattle.cs_lint.specs.Changes.{AreNoZone};
-ghost use Rattle.cs_lint.specs.declared.zone_fault.ZoneFault.TheVariants.{NoZone};
+ghost use Rattle.cs_files.specs.Trouble.{NoTimeZone, trouble};
+ghost use Rattle.cs_files.specs.declared.fault.Fault.TheVariants.{NoZone};
+ghost use Rattle.cs_lint.specs.Answer.{IsNoZone};
 
-use crate::{Change, ZoneFault};
 use cs_civil::Minute;
-use jiff_core::{Error, Offset, Timestamp};
+use cs_files::Fault;
+use cs_table::MAX_TABLE;
+use jiff_core::{Error, Timestamp};
 use jiff_tz::Tzif;
 use std::alloc::{AllocError, Global};
+
+/// A change of the clocks of a time zone, as they show it: all minutes from `first` up to `end`,
+/// without that, are skipped, or are shown twice.
+#[derive(Clone, Copy)]
+pub(crate) struct Change {
+    /// Whether the clocks are put forward past these minutes, and not back to them.
+    pub(crate) is_forward: bool,
+    /// The first of them, by the clocks of the zone.
+    pub(crate) first: Minute,
+    /// The first behind them.
+    pub(crate) end: Minute,
+}
 
 /// So many transitions are looked at: two years, where there is summer time.
 const TRANSITIONS: usize = 4;
 
-/// How far clocks are ahead of UTC at a second, or `None` at one that no instant has.
-fn offset_at(zone: &Tzif, second: i64) -> Option<Offset> {
+/// How many seconds clocks are ahead of UTC at a second; `None` at one that no instant has.
+fn offset_at(zone: &Tzif, second: i64) -> Option<i32> {
     let Ok(at) = Timestamp::from_nanosecond(i128::from(second) * 1_000_000_000) else {
         return None;
     };
-    Some(zone.to_offset(at))
+    Some(zone.to_offset(at).seconds)
 }
 
-/// The first minute that begins at this second of clocks or behind it: so far ahead of UTC.
-fn minute_from(second: i64, offset: i32) -> i128 {
-    (i128::from(second) + i128::from(offset) + 59).div_euclid(60)
-}
-
-/// A minute by its number, if it is a civil minute.
-fn civil_minute(number: i128) -> Option<Minute> {
+/// The first minute that begins at this second of clocks or behind it, so far ahead of UTC, if it is
+/// a civil minute.
+fn minute_from(second: i64, offset: i32) -> Option<Minute> {
+    let number = (i128::from(second) + i128::from(offset) + 59).div_euclid(60);
     Minute::new(u64::try_from(number).ok()?)
 }
 
-/// The change at a second where clocks were `before` seconds ahead of UTC, and are `after` seconds, if
-/// there is one.
-fn change_between(second: i64, before: i32, after: i32) -> Option<Change> {
-    let first = civil_minute(minute_from(second, before.min(after)))?;
-    let end = civil_minute(minute_from(second, before.max(after)))?;
+/// The change of a zone's clocks at a second, if there is one.
+fn change_at(zone: &Tzif, second: i64) -> Option<Change> {
+    let before = offset_at(zone, second.checked_sub(1)?)?;
+    let after = offset_at(zone, second)?;
+    let first = minute_from(second, before.min(after))?;
+    let end = minute_from(second, before.max(after))?;
     if first >= end {
         return None;
     }
@@ -44,13 +56,6 @@ fn change_between(second: i64, before: i32, after: i32) -> Option<Change> {
         first,
         end,
     })
-}
-
-/// The change of a zone's clocks at a second, if there is one.
-fn change_at(zone: &Tzif, second: i64) -> Option<Change> {
-    let before = offset_at(zone, second.checked_sub(1)?)?;
-    let after = offset_at(zone, second)?;
-    change_between(second, before.seconds, after.seconds)
 }
 
 /// The changes at the next transitions after an instant.
@@ -69,26 +74,25 @@ fn next_changes(alloc: Global, zone: &Tzif, after: Timestamp) -> Result<Vec<Chan
     Ok(changes)
 }
 
-/// The zone of a file.
-fn read_zone(alloc: Global, bytes: &[u8]) -> Result<Tzif, ZoneFault>
-    ensures fault { IfErr result (λ e. e ≡ NoZone → AreNoZone bytes.now) }
-    ensures refused { IsErr (read_tzif bytes.now) → result ≡ Err NoZone }
-{
-    match Tzif::parse(alloc, None, bytes) {
-        Ok(zone) => Ok(zone),
-        Err(Error::OutOfMemory) => Err(ZoneFault::OutOfMemory),
-        Err(_) => Err(ZoneFault::NoZone),
-    }
-}
-
 /// The changes of the clocks of a zone at its next four transitions after an instant, in order, two
-/// years of them where there is summer time. `zone` is what its file holds (TZif, RFC 9636).
-///
-/// [`NoZone`](ZoneFault::NoZone) where it holds something else.
-pub fn changes_after(alloc: Global, zone: &[u8], after: Timestamp) -> Result<Vec<Change>, ZoneFault>
-    ensures fault { IfErr result (λ e. e ≡ NoZone → AreNoZone zone.now) }
-    ensures refused { IsErr (read_tzif zone.now) → result ≡ Err NoZone }
+/// years of them where there is summer time. `zone` is what the file at that path holds (TZif, RFC
+/// 9636).
+pub(crate) fn changes_in<'a>(
+    alloc: Global,
+    path: &'a str,
+    zone: &[u8],
+    after: Timestamp,
+) -> Result<Vec<Change>, Fault<'a>>
+    ensures fault { IfErr result (λ fault. IfSome (trouble fault)
+        (λ t. (t ≡ NoTimeZone path.now) × IsNoZone zone.now)) }
+    ensures refused { IsErr (read_tzif zone.now) → result ≡ Err (NoZone path.entry) }
 {
-    let zone = read_zone(alloc, zone)?;
-    Ok(next_changes(alloc, &zone, after)?)
+    if zone.len() > MAX_TABLE {
+        return Err(Fault::NoZone(path));
+    }
+    match Tzif::parse(alloc, None, zone) {
+        Ok(zone) => Ok(next_changes(alloc, &zone, after)?),
+        Err(Error::OutOfMemory) => Err(Fault::OutOfMemory),
+        Err(_) => Err(Fault::NoZone(path)),
+    }
 }

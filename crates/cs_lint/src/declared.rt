@@ -17,21 +17,22 @@ use std::alloc::{AllocError, Global};
 pub(crate) struct Declared<'v> {
     pub(crate) tell: Tell<'v>,
     /// The anacron jobs that have entries.
-    identifiers: IndexSet<&'v str>,
+    pub(crate) identifiers: IndexSet<&'v [u8]>,
     /// The lines that entries name, and those of them that are left out.
     pub(crate) lines: IndexSet<i128>,
     pub(crate) left_out: IndexSet<i128>,
     /// Whether it's known that there are no others, and no entry by default.
-    has_all_identifiers: bool,
+    pub(crate) has_all_identifiers: bool,
     pub(crate) has_all_lines: bool,
     pub(crate) has_all_left_out: bool,
 }
 
 /// Whether it's known which entries of a kind there are.
 fn has_all(alloc: Global, whole: &Object<'_>, kind: Kind) -> Result<bool, AllocError> {
-    match whole.member(kind.list()) {
+    let [list, ..] = kind.texts();
+    match whole.member(list) {
         Some((value, _)) => Ok(value.is_array()),
-        None => Ok(!has_meant(alloc, whole, kind.list())?),
+        None => Ok(!has_meant(alloc, whole, list)?),
     }
 }
 
@@ -84,14 +85,6 @@ impl<'v> Declared<'v> {
             }
         }
         Ok(declared)
-    }
-
-    /// Whether it's known that a job has no entry.
-    pub(crate) fn lacks_job(&self, identifier: &[u8]) -> bool {
-        match str::from_utf8(identifier) {
-            Ok(name) => self.has_all_identifiers && !self.identifiers.contains(name),
-            Err(_) => false,
-        }
     }
 
     fn look_at(&mut self, whole: &Entry<'v>, table: &Table<'_>, jobs: Option<&Table<'_>>) -> Done {
@@ -167,14 +160,13 @@ impl<'v> Declared<'v> {
     fn look_at_identifiers(&mut self, entries: &[Entry<'v>], jobs: Option<&Table<'_>>) -> Done {
         for entry in entries {
             if let Some((name, span)) = entry.text(Kind::Anacron, "id") {
-                self.identifiers.insert(name)?;
-                if lacks_job(jobs, name) {
-                    let why = match jobs {
-                        Some(_) => "no such job: correct \"id\", or remove the entry",
-                        None => "no anacrontab is given: use --anacrontab FILE",
-                    };
-                    self.tell.fault(entry, span, DeclFault::NoSuchLine, why)?;
-                }
+                self.identifiers.insert(name.as_bytes())?;
+                let why = match jobs {
+                    Some(jobs) if !jobs.is_whole || jobs.lines_of(name).is_some() => continue,
+                    Some(_) => "no such job: correct \"id\", or remove the entry",
+                    None => "no anacrontab is given: use --anacrontab FILE",
+                };
+                self.tell.fault(entry, span, DeclFault::NoSuchLine, why)?;
             }
         }
         self.tell
@@ -194,14 +186,6 @@ impl<'v> Declared<'v> {
             }
         }
         Ok(())
-    }
-}
-
-/// Whether it's known that an anacrontab, if there is one, has no job of that name.
-fn lacks_job(jobs: Option<&Table<'_>>, name: &str) -> bool {
-    match jobs {
-        Some(jobs) => jobs.is_whole && jobs.lines_of(name).is_none(),
-        None => true,
     }
 }
 

@@ -58,14 +58,10 @@ const TEXTS: [[&str; 4]; 7] = [
 ];
 
 impl Kind {
-    /// The member of the whole in which it stands.
-    pub(crate) fn list(self) -> &'static str {
-        TEXTS[self as usize][0]
-    }
-
-    /// What it is called, and the members that it may have.
-    pub(crate) fn called(self) -> (&'static str, &'static str) {
-        (TEXTS[self as usize][2], TEXTS[self as usize][3])
+    /// What is said of it: the member of the whole in which it stands, what its place is called,
+    /// what it is called, and the members that it may have.
+    pub(crate) fn texts(self) -> [&'static str; 4] {
+        TEXTS[self as usize]
     }
 }
 
@@ -115,7 +111,8 @@ impl<'v> Entry<'v> {
         kind: Kind,
         entries: &mut Vec<Entry<'v>>,
     ) -> Done {
-        let Some((value, span)) = self.object.member(kind.list()) else {
+        let [list, ..] = kind.texts();
+        let Some((value, span)) = self.object.member(list) else {
             return Ok(());
         };
         let Some(items) = value.as_array() else {
@@ -136,11 +133,11 @@ impl<'v> Entry<'v> {
 
     /// A fault of it, with its place as the readers of declarations tell it.
     pub(crate) fn named(&self, alloc: Global, fault: DeclFault) -> Words {
-        let list = TEXTS[self.kind as usize][1];
-        if list.is_empty() || fault == DeclFault::BadShape {
+        let [_, place, _, _] = self.kind.texts();
+        if place.is_empty() || fault == DeclFault::BadShape {
             return format!(in alloc; "{fault}");
         }
-        format!(in alloc; "{fault} at {list} {}", self.index.saturating_add(1))
+        format!(in alloc; "{fault} at {place} {}", self.index.saturating_add(1))
     }
 }
 

@@ -42,10 +42,6 @@ static JOB: [Front; 3] = [Front::Period, Front::Delay, Front::Identifier];
 /// A fault as its reader names it, and why it is one.
 type Wrong = (&'static str, String);
 
-fn wrong(fault: &'static str, why: Words) -> Result<Option<Wrong>, AllocError> {
-    Ok(Some((fault, why?)))
-}
-
 impl Front {
     /// Those of a line of a table, whose first word may begin with `@`.
     pub(crate) fn all(kind: Kind, is_word: bool) -> &'static [Front] {
@@ -78,16 +74,15 @@ impl Front {
         let fault = match self {
             Front::Word => match read_line(text) {
                 Err(wrong) if wrong.fault == LineFault::UnknownWord => {
-                    return unknown_word(alloc, text, WORDS);
+                    let why = unknown_words(alloc, text, WORDS)?;
+                    return Ok(Some((wrong.fault.text(), why)));
                 }
                 _ => None,
             },
             Front::Field(field) => match read_item(field.0, text) {
                 Err(fault) => {
-                    return wrong(
-                        fault.text(),
-                        item_words(alloc, field, text, fault, is_first),
-                    );
+                    let why = item_words(alloc, field, text, fault, is_first)?;
+                    return Ok(Some((fault.text(), why)));
                 }
                 Ok(_) => None,
             },
@@ -96,8 +91,7 @@ impl Front {
             Front::Identifier => (!is_identifier(text)).then_some(JobFault::BadIdentifier),
         };
         match fault {
-            Some(JobFault::UnknownWord) => unknown_word(alloc, text, PERIODS),
-            Some(fault) => wrong(fault.text(), job_words(alloc, fault, text)),
+            Some(fault) => Ok(Some((fault.text(), job_words(alloc, fault, text)?))),
             None => Ok(None),
         }
     }
@@ -114,46 +108,35 @@ fn item_words(alloc: Global, field: Field, item: &[u8], fault: LineFault, is_fir
         _ if item.is_empty() => {
             format!(in alloc; "add an item of the {name} here, or remove the comma")
         }
-        _ => no_item_words(alloc, field, item, is_first),
-    }
-}
-
-fn no_item_words(alloc: Global, field: Field, item: &[u8], is_first: bool) -> Words {
-    let (part, name, names) = field;
-    let text = shown(alloc, item)?;
-    let read = other_words(alloc, part, if is_first { item } else { &[] })?;
-    let range = format_args!("{} to {}{names}", part.first(), part.last());
-    format!(in alloc; "`{text}` is no {name}{read}: write {range}")
-}
-
-/// What stands in front of the first byte that no item may have; nothing where there is none.
-fn front_of(item: &[u8]) -> &[u8] {
-    for (at, byte) in item.iter().enumerate() {
-        if !byte.is_ascii_alphanumeric() && !b"*-/".contains(byte) {
-            return Span::of(0, at).bytes(item);
+        _ => {
+            let text = shown(alloc, item)?;
+            let read = other_words(alloc, part, if is_first { item } else { &[] })?;
+            let range = format_args!("{first} to {last}{names}");
+            format!(in alloc; "`{text}` is no {name}{read}: write {range}")
         }
     }
-    &[]
 }
 
 /// What Debian's cron takes an item for that is none here: it skips the rest of a field behind the
 /// first byte that is no part of an item.
 fn other_words(alloc: Global, part: Part, item: &[u8]) -> Words {
-    let front = front_of(item);
-    match read_item(part, front) {
-        Ok(_) => {
+    for (at, byte) in item.iter().enumerate() {
+        if !byte.is_ascii_alphanumeric() && !b"*-/".contains(byte) {
+            let front = Span::of(0, at).bytes(item);
+            if read_item(part, front).is_err() {
+                return Ok(String::new(alloc));
+            }
             let text = shown(alloc, front)?;
-            format!(in alloc; ", though Debian's cron reads `{text}`")
+            return format!(in alloc; ", though Debian's cron reads `{text}`");
         }
-        Err(_) => Ok(String::new(alloc)),
     }
+    Ok(String::new(alloc))
 }
 
-fn unknown_word(alloc: Global, word: &[u8], known: &str) -> Result<Option<Wrong>, AllocError> {
+fn unknown_words(alloc: Global, word: &[u8], known: &str) -> Words {
     let name = shown(alloc, word)?;
     let hint = meant(alloc, name.as_str(), "", known, "the words are")?;
-    let why = format!(in alloc; "{name} is unknown: {hint}");
-    wrong(LineFault::UnknownWord.text(), why)
+    format!(in alloc; "{name} is unknown: {hint}")
 }
 
 fn reversed_words(alloc: Global, part: Part, item: &[u8]) -> Words {
@@ -177,6 +160,7 @@ fn lone_step_words(alloc: Global, part: Part, item: &[u8]) -> Words {
 
 fn job_words(alloc: Global, fault: JobFault, word: &[u8]) -> Words {
     let why = match fault {
+        JobFault::UnknownWord => return unknown_words(alloc, word, PERIODS),
         JobFault::BadPeriod => "the period is 1 to 100,000 days, @daily, @weekly or @monthly",
         JobFault::BadDelay => "the delay is 0 to 100,000 minutes",
         _ if word.len() > MAX_IDENTIFIER => "an identifier has at most 200 bytes: shorten it",

@@ -18,8 +18,18 @@ pub(crate) fn word_behind(line: &[u8], others: usize) -> Span {
     found
 }
 
+/// From the first of two words of a line to the end of the second, both counted from 0.
+pub(crate) fn words(line: &[u8], first: usize, last: usize) -> Span {
+    Span::between(word_behind(line, first).from, word_behind(line, last).to)
+}
+
+/// Whether a word such as `@daily` stands at the front of a line, in place of fields.
+pub(crate) fn is_word_line(line: &[u8]) -> bool {
+    word_from(line, 0).bytes(line).starts_with(b"@".as_slice())
+}
+
 /// The first of these bytes from one byte on; the end where there is none.
-pub(crate) fn first_of(bytes: &[u8], line: &[u8], from: usize) -> usize {
+fn first_of(bytes: &[u8], line: &[u8], from: usize) -> usize {
     let rest = &line[from.min(line.len())..];
     for (at, byte) in rest.iter().enumerate() {
         if bytes.contains(byte) {

@@ -6,6 +6,7 @@ use crate::table::{Begun, Table};
 use cs_crontab::When;
 use cs_decl::{is_same_when, named_when};
 use cs_diagnostics::{Done, Span, Words, shown};
+use cs_place::place_of;
 use cs_plan::{DeclFault, MAX_MINUTES};
 use cs_schedule::least_gap;
 use std::alloc::Global;
@@ -17,14 +18,6 @@ impl<'v> Entry<'v> {
     /// Whether it names lines of the crontab.
     fn names_lines(&self) -> bool {
         self.kind == Kind::Cron || self.kind == Kind::LeftOut
-    }
-
-    /// Whether the command on a line may be the one that it tells, if it tells one.
-    fn may_be_on(&self, begun: &Begun<'_>) -> bool {
-        match self.object.text("command") {
-            Some((told, _)) => begun.may_be(told),
-            None => true,
-        }
     }
 
     /// Its number and command, where the line of that number has none or another one.
@@ -246,13 +239,17 @@ impl<'v> Declared<'v> {
     /// Adds that the line of an entry has another schedule than it tells, that runs of its command
     /// may overlap, and which parts came or went.
     fn look_beside(&mut self, entry: &Entry<'v>, begun: &Begun<'_>, table: &Table<'_>) -> Done {
+        let may_be = match entry.object.text("command") {
+            Some((told, _)) => begun.may_be(told),
+            None => true,
+        };
         if let (Some((told, span)), Some(when)) = (entry.object.text("when"), &begun.when) {
             let (fault, advice) = match entry.object.whole("line") {
                 Some(_) => (DeclFault::OtherSchedule, "correct \"line\" or \"when\""),
                 None => (DeclFault::NoSuchLine, "correct \"when\""),
             };
             match named_when(self.tell.findings.alloc, told)? {
-                Some(told) if entry.may_be_on(begun) && !is_same_when(&told, when) => {
+                Some(told) if may_be && !is_same_when(&told, when) => {
                     let why = format_args!("line {} has another schedule: {advice}", begun.number);
                     self.tell.fault(entry, span, fault, why)?;
                 }
@@ -260,8 +257,8 @@ impl<'v> Declared<'v> {
             }
         }
         self.find_overlap(entry, begun)?;
-        match table.place_of(begun.number) {
-            Some(place) if entry.may_be_on(begun) => { find_moved(&mut self.tell, entry, place) }
+        match place_of(table.beside.places, begun.number) {
+            Some(place) if may_be => find_moved(&mut self.tell, entry, place),
             _ => Ok(()),
         }
     }

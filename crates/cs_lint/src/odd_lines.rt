@@ -1,106 +1,193 @@
-//! What is odd in the lines of a crontab, each by itself.
-ghost use Rattle.std.specs.Prelude.{◌≡◌, ◌||◌, OnOk};
-ghost use Rattle.cs_lint.specs.Odd.{is_odd_line, is_odd_table};
+//! What is odd in a line of a crontab, by itself: it can be read, but is seldom meant.
+use crate::line::{is_word_line, word_behind, words};
+use cs_diagnostics::Span;
+use cs_table::text::{digits, is_blank, trim_end};
 
-use crate::line::{word_behind, word_from};
-use crate::oddity::{Oddity, oddities_in};
-use crate::text::{MAX_COMMAND, from_percent};
-use crate::wanted::Wanted;
-use cs_diagnostics::{Done, Findings, Span};
-use cs_table::MAX_TABLE;
-use cs_table::text::{first_line, is_blank};
+/// The most bytes that a command has in Debian's cron.
+const MAX_COMMAND: usize = 998;
 
-/// From the first of two words of a line to the end of the second, both counted from 0.
-fn words(line: &[u8], first: usize, last: usize) -> Span {
-    Span::between(word_behind(line, first).from, word_behind(line, last).to)
+/// Something that may be odd in a line: whether it is, where, its name as `cronsafe explain` lists
+/// it, and why it's odd, with what to change.
+pub(crate) type Oddity = (bool, Span, &'static str, &'static str);
+
+/// The text of a field, counted from 0: nothing where a word such as `@daily` stands in place of
+/// the fields.
+fn field(line: &[u8], number: usize) -> &[u8] {
+    if is_word_line(line) {
+        return &[];
+    }
+    word_behind(line, number).bytes(line)
 }
 
-/// The byte of a line at which its command begins.
-fn start_of_command(line: &[u8]) -> usize {
-    let has_word = word_behind(line, 0).bytes(line).starts_with(b"@");
-    word_behind(line, if has_word { 1 } else { 5 }).from
+/// Whether a field is `*/N`, and what it goes round isn't a multiple of N.
+fn is_uneven(field: &[u8], round: u32) -> bool {
+    if !field.starts_with(b"*/".as_slice()) {
+        return false;
+    }
+    let (step, rest) = digits(&field[2..]);
+    rest.is_empty() && step != 0 && round % step != 0
 }
 
-/// The byte at which the last `#` behind a blank stands; 0 where there is none.
-fn last_comment(text: &[u8]) -> usize {
-    let (mut last, mut is_behind_blank) = (0usize, false);
+/// The byte at which the first `%` stands that no backslash escapes; the end where there is none.
+fn percent_in(command: &[u8]) -> usize {
+    let mut is_escaped = false;
+    for (at, byte) in command.iter().enumerate() {
+        if *byte == b'%' && !is_escaped {
+            return at;
+        }
+        is_escaped = *byte == b'\\';
+    }
+    command.len()
+}
+
+/// The byte at which the last `#` behind a blank stands, if no quote, backquote or backslash stands
+/// behind it.
+fn comment_in(text: &[u8]) -> Option<usize> {
+    let (mut found, mut is_behind_blank) = (None, false);
     for (at, byte) in text.iter().enumerate() {
-        if *byte == b'#' && is_behind_blank {
-            last = at;
+        match *byte {
+            b'#' if is_behind_blank => found = Some(at),
+            b'"' | b'\'' | b'`' | b'\\' => found = None,
+            _ => {}
         }
         is_behind_blank = is_blank(*byte);
     }
-    last
+    found
 }
 
-/// The byte at which the last `&` stands; 0 where there is none.
-fn last_ampersand(text: &[u8]) -> usize {
-    let mut last = 0usize;
-    for (at, byte) in text.iter().enumerate() {
-        if *byte == b'&' {
-            last = at;
+/// Whether a `$` stands in front of a name or a `{`, and whether a `#` stands behind a blank.
+fn marks_in(value: &[u8]) -> (bool, bool) {
+    let (mut has_variable, mut has_comment, mut last) = (false, false, 0u8);
+    for byte in value {
+        match *byte {
+            b'A'..=b'Z' | b'a'..=b'{' | b'_' if last == b'$' => has_variable = true,
+            b'#' if is_blank(last) => has_comment = true,
+            _ => {}
         }
+        last = *byte;
     }
-    last
+    (has_variable, has_comment)
 }
 
-/// Where that is in a line that has it.
-fn place_of(oddity: Oddity, line: &[u8]) -> Span {
-    let len = line.len();
-    let percent = len.saturating_sub(from_percent(line).len());
-    match oddity {
-        Oddity::EachMinute => words(line, 0, 1),
-        Oddity::UnevenMinutes => words(line, 0, 0),
-        Oddity::UnevenHours => words(line, 1, 1),
-        Oddity::UnevenDays => words(line, 2, 2),
-        Oddity::BothDays => words(line, 2, 4),
-        Oddity::PercentSign => Span::of(percent, 1),
-        Oddity::LongCommand => {
-            Span::between(start_of_command(line).saturating_add(MAX_COMMAND), len)
-        }
-        Oddity::Background => {
-            let front = Span::of(0, percent).bytes(line);
-            Span::of(last_ampersand(front), 1)
-        }
-        Oddity::CommandComment => {
-            let front = Span::of(0, percent).bytes(line);
-            Span::between(last_comment(front), percent)
-        }
-        Oddity::Unexpanded | Oddity::TimeZone | Oddity::ValueComment => {
-            Span::between(word_from(line, 0).from, len)
-        }
-        Oddity::Backslash | Oddity::CarriageReturn => Span::of(len.saturating_sub(1), 1),
-    }
+/// What may be odd in a line that is a setting.
+pub(crate) fn odd_setting(line: &[u8], name: &[u8], value: &[u8]) -> [Oddity; 3] {
+    let place = Span::between(word_behind(line, 0).from, line.len());
+    let (has_variable, has_comment) = marks_in(value);
+    let has_comment = has_comment && trim_end(line).ends_with(value);
+    [
+        (
+            has_variable,
+            place,
+            "Unexpanded",
+            "no variable is expanded in a setting: write out its value",
+        ),
+        (
+            name == b"TZ".as_slice(),
+            place,
+            "TimeZone",
+            "commands get this zone, but aren't due by it: set it in each command",
+        ),
+        (
+            has_comment,
+            place,
+            "ValueComment",
+            "the comment is part of the value: put it on a line of its own",
+        ),
+    ]
 }
 
-/// Adds what is odd in a line that begins at that byte of the table.
-fn find_oddities(findings: &mut Findings, wanted: &Wanted<'_>, start: usize, line: &[u8]) -> Done
-    ensures { OnOk result (findings.new.has_oddities
-        ≡ (findings.old.has_oddities || is_odd_line wanted.now line.now)) }
-{
-    let found = oddities_in(findings.alloc, line)?;
-    for oddity in found.iter() {
-        let place = place_of(*oddity, line).behind(start);
-        wanted.odd(findings, place, oddity.name(), oddity.why())?;
-    }
-    Ok(())
+/// What may be odd in the fields of a line.
+pub(crate) fn odd_fields(line: &[u8]) -> [Oddity; 5] {
+    let (minute, hour, day) = (field(line, 0), field(line, 1), field(line, 2));
+    let has_star = day.starts_with(b"*".as_slice()) || field(line, 4).starts_with(b"*".as_slice());
+    [
+        (
+            minute == b"*".as_slice() && digits(hour).1.is_empty(),
+            words(line, 0, 1),
+            "EachMinute",
+            "due at each minute of this hour: write 0 for one run, or 0-59",
+        ),
+        (
+            is_uneven(minute, 60),
+            words(line, 0, 0),
+            "UnevenStep",
+            "the step begins anew each hour, after a shorter gap: take a divisor of 60",
+        ),
+        (
+            is_uneven(hour, 24),
+            words(line, 1, 1),
+            "UnevenStep",
+            "the step begins anew each day, after a shorter gap: take a divisor of 24",
+        ),
+        (
+            is_uneven(day, 1),
+            words(line, 2, 2),
+            "UnevenStep",
+            "the step begins anew each month, after another gap: list the days",
+        ),
+        (
+            !day.is_empty() && !has_star,
+            words(line, 2, 4),
+            "BothDays",
+            "either day is enough: to ask for both, test one in the command",
+        ),
+    ]
 }
 
-/// Adds what is odd in each line of a table that isn't too long.
-pub(crate) fn find_odd_lines(findings: &mut Findings, wanted: &Wanted<'_>, table: &[u8]) -> Done
-    ensures { OnOk result (findings.new.has_oddities
-        ≡ (findings.old.has_oddities || is_odd_table wanted.now table.now)) }
-{
-    if table.len() > MAX_TABLE {
-        return Ok(());
-    }
-    let mut start = 0usize;
-    let mut rest = table;
-    while !rest.is_empty() {
-        let (line, after) = first_line(rest);
-        find_oddities(findings, wanted, start, line)?;
-        start = start.saturating_add(line.len()).saturating_add(1);
-        rest = after;
-    }
-    Ok(())
+/// What may be odd in the command of a line.
+pub(crate) fn odd_command(line: &[u8], command: &[u8]) -> [Oddity; 4] {
+    let (len, start) = (line.len(), line.len().saturating_sub(command.len()));
+    let percent = percent_in(command);
+    let text = Span::of(0, percent).bytes(command);
+    let front = trim_end(text);
+    let is_background = front.ends_with(b"&".as_slice())
+        && !front.ends_with(b"&&".as_slice())
+        && !front.ends_with(b"\\&".as_slice())
+        && !front.contains(&b'#');
+    let comment = comment_in(text);
+    [
+        (
+            percent < command.len(),
+            Span::of(start.saturating_add(percent), 1),
+            "PercentSign",
+            r"the command ends here, and what follows is its input: write \%",
+        ),
+        (
+            command.len() > MAX_COMMAND,
+            Span::between(start.saturating_add(MAX_COMMAND), len),
+            "LongCommand",
+            "Debian's cron takes 998 bytes: put the command into a script",
+        ),
+        (
+            is_background,
+            Span::of(start.saturating_add(front.len()).saturating_sub(1), 1),
+            "Background",
+            "the run ends while this goes on, past its longest time: remove the `&`",
+        ),
+        (
+            comment.is_some(),
+            Span::between(comment.unwrap_or(0), percent).behind(start),
+            "CommandComment",
+            "the comment is part of the command: put it on a line of its own",
+        ),
+    ]
+}
+
+/// What may be odd at the end of a line.
+pub(crate) fn odd_end(line: &[u8]) -> [Oddity; 2] {
+    let last = Span::of(line.len().saturating_sub(1), 1);
+    [
+        (
+            line.ends_with(b"\\".as_slice()),
+            last,
+            "Backslash",
+            "the next line isn't joined to this one: write it all on one line",
+        ),
+        (
+            line.ends_with(b"\r".as_slice()),
+            last,
+            "CarriageReturn",
+            "a carriage return ends this line: end lines with a newline alone",
+        ),
+    ]
 }

@@ -23,21 +23,18 @@ fn parts_in<'v>(
     Ok(parts)
 }
 
-/// The minutes of some parts and one more, where each has a longest time.
-fn with_minutes(minutes: Option<i128>, part: &Entry<'_>) -> Option<i128> {
-    let (max, _) = part.object.whole("max")?;
-    let is_possible = 1 <= max && max <= i128::from(MAX_MINUTES);
-    let minutes = minutes?.saturating_add(max);
-    is_possible.then_some(minutes)
-}
-
 /// Adds what is wrong with the parts of an entry, each by itself and all together.
 pub(crate) fn find_in_parts(tell: &mut Tell<'_>, entry: &Entry<'_>) -> Done {
     let parts = parts_in(tell.findings.alloc, tell.bytes, entry)?;
-    let mut minutes = Some(0);
+    let mut minutes = Some(0i128);
     for part in parts.iter() {
         find_in_entry(tell, part)?;
-        minutes = with_minutes(minutes, part);
+        minutes = match (minutes, part.object.whole("max")) {
+            (Some(sum), Some((max, _))) if 1 <= max && max <= i128::from(MAX_MINUTES) => {
+                Some(sum.saturating_add(max))
+            }
+            _ => None,
+        };
     }
     tell.find_twice(parts.as_slice(), (Kind::Part, "name", "part"))?;
     let (Some(minutes), Some((max, span))) = (minutes, entry.object.whole("max")) else {
@@ -64,21 +61,15 @@ pub(crate) fn find_moved(tell: &mut Tell<'_>, entry: &Entry<'_>, place: &Place) 
         return Ok(());
     }
     find_gone(tell, &names, place)?;
-    match entry.object.member("parts") {
-        Some((_, span)) if have_names(parts.as_slice()) => {
-            find_new(tell, &names, Span::of(span.from, 1), place)
-        }
-        _ => Ok(()),
-    }
-}
-
-fn have_names(parts: &[Entry<'_>]) -> bool {
-    for part in parts {
+    for part in parts.iter() {
         if part.object.text("name").is_none() {
-            return false;
+            return Ok(());
         }
     }
-    true
+    match entry.object.member("parts") {
+        Some((_, span)) => find_new(tell, &names, Span::of(span.from, 1), place),
+        None => Ok(()),
+    }
 }
 
 fn find_gone(tell: &mut Tell<'_>, names: &IndexMap<&str, Span>, place: &Place) -> Done {

@@ -1,8 +1,7 @@
 //! Where the lines of a gathered table come from, and what is told of them.
-use cs_civil::Sequence;
-use cs_crontab::{Entry, TableFault, read_crontab, read_line};
+use cs_crontab::{Entry, read_line};
 use cs_diagnostics::Note;
-use cs_place::{Place, is_mark_name, push_place_text, push_places, read_places};
+use cs_place::{Place, is_mark_name, push_place_text, push_places};
 use cs_table::MAX_TABLE;
 use std::alloc::{AllocError, Global};
 
@@ -18,20 +17,14 @@ fn has_mark(bytes: &[u8]) -> bool {
     false
 }
 
-/// The places of the lines of a table. One with a fault has those that its comments give, if one of
-/// the lines that can be read sets the mark.
-pub(crate) fn places_in(alloc: Global, bytes: &[u8]) -> Result<Sequence<Place>, AllocError> {
-    match read_crontab(alloc, bytes) {
-        Ok(table) => read_places(alloc, bytes, &table),
-        Err(TableFault::At { .. }) => {
-            let mut places = Vec::new(alloc);
-            if bytes.len() <= MAX_TABLE && has_mark(bytes) {
-                push_places(alloc, &mut places, bytes)?;
-            }
-            Ok(Sequence::from_vec(places))
-        }
-        Err(TableFault::OutOfMemory) => Err(AllocError),
+/// The places of the lines of a table, as its comments give them, if it's gathered; one with a fault
+/// too, if one of the lines that can be read sets the mark.
+pub(crate) fn places_in(alloc: Global, bytes: &[u8]) -> Result<Vec<Place>, AllocError> {
+    let mut places = Vec::new(alloc);
+    if bytes.len() <= MAX_TABLE && has_mark(bytes) {
+        push_places(alloc, &mut places, bytes)?;
     }
+    Ok(places)
 }
 
 /// What is told of the lines that have places: `line 14 is /etc/cron.d/munin:12 (munin)`.

@@ -1,197 +1,193 @@
 //! What is odd between the commands of a plan and what is declared of them: the locks that they take
 //! by flock(1), and the time that timeout(1) allows them.
-ghost use Rattle.std.specs.Prelude.{◌≡◌, true, OnOk};
-
-use crate::held::{Held, held_in};
-use crate::looks::{Look, find_in_lines};
 use crate::wanted::Wanted;
-use cs_diagnostics::{Done, Findings, Span, Words};
+use cs_civil::Bytes;
+use cs_command::{Lock, asked_for, lock_of};
+use cs_diagnostics::{Done, Findings, Span};
 use cs_history::Mode;
 use cs_plan::Plan;
-use std::alloc::Global;
+use std::alloc::{AllocError, Global};
 
-/// Something odd about a command of a plan.
-#[derive(Clone, Copy)]
-pub(crate) enum PlanOddity {
-    /// It takes a lock, and is in no group.
-    NoGroup,
-    /// It takes its lock in another mode than is declared.
-    OtherMode,
-    /// A command above locks its file in another group.
-    MixedGroups,
-    /// A command above in its group locks another file.
-    MixedFiles,
-    /// It is declared to take a lock and takes none itself, as another command does.
-    NoLock,
-    /// Its own timeout allows it more minutes than are declared.
-    ShortMax,
-    /// Another line has its command, and its entry tells no schedule.
-    NoWhen,
+/// A command of a plan: the lock that it takes itself, and what is declared of it.
+#[derive(Drop)]
+pub(crate) struct Held {
+    /// The number of its line.
+    pub(crate) number: u32,
+    /// The file and the mode of the lock that it takes by flock(1), if it takes one.
+    own: Option<(Bytes, Mode)>,
+    /// Whether it takes none, and names no program that locks files either.
+    is_bare: bool,
+    /// The number of its group, if it's in one.
+    group: Option<u8>,
+    /// How it treats the lock of its group.
+    mode: Mode,
+    /// Its longest time in minutes, as it's declared.
+    max: u16,
+    /// The minutes that its own timeout(1) allows it; without one, the same.
+    allowed: u64,
+    /// Whether it's the first whose entry tells a command of several lines and no schedule.
+    is_untimed: bool,
 }
 
-const PLAN_ODDITIES: [PlanOddity; 7] = [
-    PlanOddity::NoGroup,
-    PlanOddity::OtherMode,
-    PlanOddity::MixedGroups,
-    PlanOddity::MixedFiles,
-    PlanOddity::NoLock,
-    PlanOddity::ShortMax,
-    PlanOddity::NoWhen,
-];
+/// The commands of a plan, in order of line. The only error is want of memory.
+pub(crate) fn held_in(alloc: Global, plan: &Plan) -> Result<Vec<Held>, AllocError> {
+    let mut all = Vec::new(alloc);
+    let mut number = 0u16;
+    for line in plan.crontab().lines() {
+        let job = plan.job_at(number);
+        let (own, is_bare) = match lock_of(alloc, line.command())? {
+            Lock::Of(file, mode) => (Some((file, mode)), false),
+            Lock::Absent => (None, true),
+            Lock::Unread => (None, false),
+        };
+        all.push(Held {
+            number: line.number(),
+            own,
+            is_bare,
+            group: job.group(),
+            mode: job.mode(),
+            max: job.max(),
+            allowed: asked_for(u64::from(job.max()), line.command()),
+            is_untimed: plan.untimed() == Some(line.number()),
+        })?;
+        number = number.saturating_add(1);
+    }
+    Ok(all)
+}
 
 impl Held {
-    /// Whether it takes a lock in another mode than is declared.
-    fn has_other_mode(&self) -> bool {
-        match &self.own {
-            Some((_, own)) => {
-                let (waits, shares) = (self.mode.waits(), self.mode.shares());
-                !self.mode.takes_lock() || own.waits() != waits || own.shares() != shares
-            }
-            None => false,
+    /// Why its mode isn't that of the lock that it takes, and what to set, where it takes one.
+    fn other_mode(&self) -> Option<&'static str> {
+        let Some((_, own)) = &self.own else {
+            return None;
+        };
+        let is_same = own.waits() == self.mode.waits() && own.shares() == self.mode.shares();
+        if self.mode.takes_lock() && is_same {
+            return None;
+        }
+        match own {
+            Mode::Wait => Some(
+                "its entry doesn't wait for the lock as this flock does: set \"mode\" to \"wait\"",
+            ),
+            Mode::Shared => Some(
+                "its entry doesn't share the lock as this flock does: set \"mode\" to \"shared\"",
+            ),
+            _ => Some(
+                "its entry doesn't give up as flock -n does: set \"mode\" to \"try\" or \"skip\"",
+            ),
         }
     }
 
-    /// Whether a command above is or isn't in its group, and locks or doesn't lock its file.
-    fn meets(&self, group: bool, file: bool, other: &Held) -> bool {
-        match (self.group, other.group, &self.own, &other.own) {
-            (Some(a), Some(b), Some((own, _)), Some((others, _))) => {
-                other.number < self.number
-                    && group == (a == b)
-                    && file == (own.as_slice() == others.as_slice())
-            }
-            _ => false,
-        }
-    }
-
-    fn meets_any(&self, group: bool, file: bool, all: &[Held]) -> bool {
+    /// Whether a command above locks its file in another group, and whether one above in its group
+    /// locks another file.
+    fn is_mixed(&self, all: &[Held]) -> (bool, bool) {
+        let (mut has_groups, mut has_files) = (false, false);
         for other in all {
-            if self.meets(group, file, other) {
+            match (self.group, other.group, &self.own, &other.own) {
+                (Some(a), Some(b), Some((own, _)), Some((others, _)))
+                    if other.number < self.number => {
+                    let is_same = own.as_slice() == others.as_slice();
+                    has_groups = has_groups || is_same && a != b;
+                    has_files = has_files || !is_same && a == b;
+                }
+                _ => {}
+            }
+        }
+        (has_groups, has_files)
+    }
+
+    /// Whether one of all commands takes a lock itself, where this takes none and is declared to.
+    fn lacks_lock(&self, all: &[Held]) -> bool {
+        if !self.is_bare || !self.mode.takes_lock() {
+            return false;
+        }
+        for other in all {
+            if other.own.is_some() {
                 return true;
             }
         }
         false
     }
+
+    /// Adds what is odd about it among all, where it stands.
+    pub(crate) fn find_odd(
+        &self,
+        findings: &mut Findings,
+        wanted: &Wanted<'_>,
+        place: Span,
+        all: &[Held],
+    ) -> Done {
+        let (has_own, has_group, other) = (
+            self.own.is_some(),
+            self.group.is_some(),
+            self.other_mode(),
+        );
+        let (has_groups, has_files) = self.is_mixed(all);
+        let oddities = [
+            (
+                has_own && !has_group,
+                "OtherLock",
+                "its entry has no group for this lock: add one, as 'cronsafe draft' does",
+            ),
+            (
+                has_group && other.is_some(),
+                "OtherLock",
+                other.unwrap_or(""),
+            ),
+            (
+                has_groups,
+                "MixedLocks",
+                "a command above locks the same file in another group: put both into one group",
+            ),
+            (
+                has_files,
+                "MixedLocks",
+                "a command above in its group locks another file: have both lock one file",
+            ),
+            (
+                self.lacks_lock(all),
+                "NoOwnLock",
+                "only 'cronsafe run' takes its lock, while others use flock: put flock before it",
+            ),
+        ];
+        for (is_so, name, why) in oddities {
+            if is_so {
+                wanted.odd(findings, place, name, why)?;
+            }
+        }
+        let (max, allowed) = (self.max, self.allowed);
+        if u64::from(max) < allowed {
+            let front = format_args!(
+                "its timeout allows {allowed} minutes, and its \"max\" is {max}"
+            );
+            let why = format_args!("{front}: raise \"max\", or shorten the timeout");
+            wanted.odd(findings, place, "ShortMax", why)?;
+        }
+        if !self.is_untimed {
+            return Ok(());
+        }
+        let why =
+            "another line has this command: add \"when\" to its entry, as 'cronsafe draft' does";
+        wanted.odd(findings, place, "NoWhen", why)
+    }
 }
 
-/// Whether a command takes a lock itself.
-fn any_has_own(all: &[Held]) -> bool {
+/// Whether a command that is started at startup may take the lock of a group that one of all others
+/// takes. The only error is want of memory.
+pub(crate) fn may_take(alloc: Global, all: &[Held], command: &[u8]) -> Result<bool, AllocError> {
+    if all.is_empty() {
+        return Ok(false);
+    }
+    let lock = lock_of(alloc, command)?;
     for held in all {
-        if held.own.is_some() {
-            return true;
-        }
-    }
-    false
-}
-
-impl PlanOddity {
-    fn is_in(self, all: &[Held], held: &Held) -> bool {
-        match self {
-            PlanOddity::NoGroup => held.own.is_some() && held.group.is_none(),
-            PlanOddity::OtherMode => held.group.is_some() && held.has_other_mode(),
-            PlanOddity::MixedGroups => held.meets_any(false, true, all),
-            PlanOddity::MixedFiles => held.meets_any(true, false, all),
-            PlanOddity::NoLock => held.mode.takes_lock() && held.is_bare && any_has_own(all),
-            PlanOddity::ShortMax => u64::from(held.max) < held.allowed,
-            PlanOddity::NoWhen => held.is_untimed,
-        }
-    }
-
-    /// What it is called, as `cronsafe explain` lists it.
-    fn name(self) -> &'static str {
-        match self {
-            PlanOddity::NoGroup | PlanOddity::OtherMode => "OtherLock",
-            PlanOddity::MixedGroups | PlanOddity::MixedFiles => "MixedLocks",
-            PlanOddity::NoLock => "NoOwnLock",
-            PlanOddity::ShortMax => "ShortMax",
-            PlanOddity::NoWhen => "NoWhen",
-        }
-    }
-
-    /// Why it is odd about a command, and what to change.
-    fn why(self, alloc: Global, held: &Held) -> Words {
-        let (max, allowed) = (held.max, held.allowed);
-        let why = match (self, &held.own) {
-            (PlanOddity::NoGroup, _) => {
-                "its entry has no group for this lock: add one, as 'cronsafe draft' does"
-            }
-            (PlanOddity::OtherMode, Some((_, Mode::Wait))) => {
-                "its entry doesn't wait for the lock as this flock does: set \"mode\" to \"wait\""
-            }
-            (PlanOddity::OtherMode, Some((_, Mode::Shared))) => {
-                "its entry doesn't share the lock as this flock does: set \"mode\" to \"shared\""
-            }
-            (PlanOddity::OtherMode, _) => {
-                "its entry doesn't give up as flock -n does: set \"mode\" to \"try\" or \"skip\""
-            }
-            (PlanOddity::MixedGroups, _) => {
-                "a command above locks the same file in another group: put both into one group"
-            }
-            (PlanOddity::MixedFiles, _) => {
-                "a command above in its group locks another file: have both lock one file"
-            }
-            (PlanOddity::NoLock, _) => {
-                "only 'cronsafe run' takes its lock, while others use flock: put flock before it"
-            }
-            (PlanOddity::NoWhen, _) => {
-                "another line has this command: add \"when\" to its entry, as 'cronsafe draft' does"
-            }
-            (PlanOddity::ShortMax, _) => {
-                let front = format_args!(
-                    "its timeout allows {allowed} minutes, and its \"max\" is {max}"
-                );
-                return format!(in alloc; "{front}: raise \"max\", or shorten the timeout");
-            }
+        let may_be = match (&lock, &held.own, held.group) {
+            (Lock::Of(file, _), Some((own, _)), Some(_)) => own.as_slice() == file.as_slice(),
+            (Lock::Unread, Some(_), Some(_)) => true,
+            _ => false,
         };
-        format!(in alloc; "{why}")
-    }
-}
-
-/// Adds what is odd about a command among all, which stands at that place.
-fn find_about(
-    findings: &mut Findings,
-    wanted: &Wanted<'_>,
-    place: Span,
-    all: &[Held],
-    held: &Held,
-) -> Done
-    ensures { OnOk result (findings.old.has_oddities ≡ true
-        → findings.new.has_oddities ≡ true) }
-{
-    for oddity in PLAN_ODDITIES {
-        if oddity.is_in(all, held) {
-            let why = oddity.why(findings.alloc, held)?;
-            wanted.odd(findings, place, oddity.name(), why.as_str())?;
+        if may_be {
+            return Ok(true);
         }
     }
-    Ok(())
-}
-
-/// The place of the command on the line of that number.
-fn place_of(places: &[(u32, Span)], number: u32) -> Span {
-    for (line, place) in places {
-        if *line == number {
-            return *place;
-        }
-    }
-    Span::of(0, 0)
-}
-
-/// Adds what is odd about a plan: about its commands, of which those places are known, and about
-/// the lines of its crontab that are started at startup.
-pub(crate) fn find_odd_plan(
-    findings: &mut Findings,
-    wanted: &Wanted<'_>,
-    places: &[(u32, Span)],
-    table: &[u8],
-    plan: &Plan,
-) -> Done
-    ensures { OnOk result (findings.old.has_oddities ≡ true
-        → findings.new.has_oddities ≡ true) }
-{
-    let all = held_in(findings.alloc, plan)?;
-    for held in all.as_slice() {
-        let place = place_of(places, held.number);
-        find_about(findings, wanted, place, all.as_slice(), held)?;
-    }
-    find_in_lines(findings, wanted, &Look::Startups(all.as_slice()), table)
+    Ok(false)
 }

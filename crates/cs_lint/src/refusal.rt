@@ -1,34 +1,35 @@
 //! What the readers of the files refuse.
-ghost use Rattle.std.specs.Prelude.{◌≡◌, ◌-◌, ◌≤◌, false, IfOk, Some};
+ghost use Rattle.std.specs.Prelude.{ℕ, List, IfOk, Ok};
 ghost use Rattle.std.specs.Option.{option_map};
-ghost use Rattle.cs_plan.specs.Printed.{fault_text};
+ghost use Rattle.cs_crontab.specs.Faults.{Means};
 ghost use Rattle.cs_lint.specs.Refused.{Finds, FindsJobs, FindsPlan, FindsTable};
 
 use cs_anacrontab::{AnacronFault, Anacrontab, JobFault, read_anacrontab};
 use cs_crontab::{Crontab, LineFault, TableFault, read_crontab};
 use cs_decl::{join, read_declarations};
 use cs_diagnostics::FirstFault;
-use cs_plan::{DeclError, DeclFault, Plan};
+use cs_plan::{DeclError, Plan};
+use cs_report::first_behind_user;
 use std::alloc::{AllocError, Global};
 
 /// Why the files of a call can't be used: the first fault that their readers answer.
 #[derive(Clone, Copy)]
-pub(crate) enum Refusal<'a> {
+pub(crate) enum Refusal {
     /// Of the crontab.
-    Table(FirstFault<'a>),
+    Table(FirstFault<'static>),
     /// Of the anacrontab.
-    Jobs(FirstFault<'a>),
+    Jobs(FirstFault<'static>),
     /// Of the declarations, by themselves or beside the tables.
-    Plan(FirstFault<'a>),
+    Plan(FirstFault<'static>),
 }
 
 /// What the readers of the files of a call answer.
 #[derive(Drop)]
-pub(crate) struct Looked<'a> {
-    /// Why they refuse them, if they do.
-    pub(crate) refusal: Option<Refusal<'a>>,
-    /// The plan, where there are declarations and nothing is refused.
-    pub(crate) plan: Option<Plan>,
+pub(crate) struct Looked {
+    /// The plan, if there are declarations; or why they refuse the files.
+    pub(crate) plan: Result<Option<Plan>, Refusal>,
+    /// The number of the line whose command seems to stand behind a user, if one does.
+    pub(crate) user: Option<u32>,
 }
 
 /// The fault of a table: one of a setting may be told at what is wrong in it, others at their
@@ -39,10 +40,7 @@ pub(crate) fn first(
     length: usize,
     is_setting: bool,
     name: &str,
-) -> FirstFault<'_>
-    ensures { (result.line ≡ line) × (result.from ≡ column - 1) × (result.more ≤ length)
-        × (is_setting ≡ false → result.more ≡ 0) × (result.name.now ≡ name.now) }
-{
+) -> FirstFault<'_> {
     FirstFault {
         line: u64::from(line),
         from: column.saturating_sub(1),
@@ -102,12 +100,6 @@ fn jobs_or_refusal(
     }
 }
 
-fn named(fault: DeclFault) -> FirstFault<'static>
-    ensures { (result.line ≡ 0) × (result.name.now ≡ fault_text fault) }
-{
-    first(0, 0, 0, false, fault.text())
-}
-
 /// The plan; or why declarations are refused, by themselves or beside the tables: the name of the
 /// fault alone.
 fn plan_or_refusal(
@@ -120,55 +112,64 @@ fn plan_or_refusal(
 {
     let declarations = match read_declarations(alloc, text) {
         Ok(declarations) => declarations,
-        Err(DeclError::At { fault, place: _ }) => return Ok(Err(named(fault))),
+        Err(DeclError::At { fault, place: _ }) => {
+            return Ok(Err(first(0, 0, 0, false, fault.text())));
+        }
         Err(DeclError::OutOfMemory) => return Err(AllocError),
     };
     match join(alloc, table, jobs, declarations) {
         Ok(plan) => Ok(Ok(plan)),
-        Err(DeclError::At { fault, place: _ }) => Ok(Err(named(fault))),
+        Err(DeclError::At { fault, place: _ }) => { Ok(Err(first(0, 0, 0, false, fault.text()))) }
         Err(DeclError::OutOfMemory) => Err(AllocError),
     }
 }
 
-fn refused(refusal: Refusal<'static>) -> Looked<'static>
-    ensures { result.refusal ≡ Some refusal.entry }
+/// The plan that the files beside a crontab make, if there are declarations; or the first fault of
+/// the anacrontab and of the declarations, in this order.
+fn plan_beside(
+    alloc: Global,
+    table: Crontab,
+    jobs: Option<&[u8]>,
+    declarations: Option<&[u8]>,
+) -> Result<Result<Option<Plan>, Refusal>, AllocError>
+    ensures { IfOk result (λ plan. (text : List ℕ) → Means text (Ok table) → Finds plan text
+        (option_map (λ t. t.now) jobs.entry) (option_map (λ t. t.now) declarations.entry)) }
 {
-    Looked {
-        refusal: Some(refusal),
-        plan: None,
+    let jobs = match jobs_or_refusal(alloc, jobs)? {
+        Ok(jobs) => jobs,
+        Err(first) => return Ok(Err(Refusal::Jobs(first))),
+    };
+    let Some(text) = declarations else {
+        return Ok(Ok(None));
+    };
+    match plan_or_refusal(alloc, table, jobs, text)? {
+        Ok(plan) => Ok(Ok(Some(plan))),
+        Err(first) => Ok(Err(Refusal::Plan(first))),
     }
 }
 
-/// The first fault of the crontab, the anacrontab, the declarations and the plan that all of them
-/// are, in this order; or that plan.
+/// What the readers of the crontab, the anacrontab and the declarations answer, in this order.
 pub(crate) fn look_at(
     alloc: Global,
     table: &[u8],
     jobs: Option<&[u8]>,
     declarations: Option<&[u8]>,
-) -> Result<Looked<'static>, AllocError>
-    ensures { IfOk result (λ looked. Finds looked.refusal table.now
+) -> Result<Looked, AllocError>
+    ensures { IfOk result (λ looked. Finds looked.plan table.now
         (option_map (λ t. t.now) jobs.entry) (option_map (λ t. t.now) declarations.entry)) }
 {
-    let table = match table_or_refusal(alloc, table)? {
-        Ok(table) => table,
-        Err(first) => return Ok(refused(Refusal::Table(first))),
-    };
-    let jobs = match jobs_or_refusal(alloc, jobs)? {
-        Ok(jobs) => jobs,
-        Err(first) => return Ok(refused(Refusal::Jobs(first))),
-    };
-    let Some(text) = declarations else {
-        return Ok(Looked {
-            refusal: None,
-            plan: None,
-        });
-    };
-    match plan_or_refusal(alloc, table, jobs, text)? {
-        Ok(plan) => Ok(Looked {
-            refusal: None,
-            plan: Some(plan),
+    match table_or_refusal(alloc, table)? {
+        Ok(crontab) => {
+            let user = match first_behind_user(crontab.lines()) {
+                Some(line) => Some(line.number()),
+                None => None,
+            };
+            let plan = plan_beside(alloc, crontab, jobs, declarations)?;
+            Ok(Looked { plan, user })
+        }
+        Err(first) => Ok(Looked {
+            plan: Err(Refusal::Table(first)),
+            user: None,
         }),
-        Err(first) => Ok(refused(Refusal::Plan(first))),
     }
 }

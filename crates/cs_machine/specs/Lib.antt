@@ -2,8 +2,6 @@ pub mod Files
 pub mod HookCall
 pub mod Home
 pub mod Hook
-pub mod LeftOut
-pub mod NextDue
 pub mod Output
 pub mod Passing
 pub mod Report
@@ -12,5 +10,3 @@ pub mod Runners
 pub mod Setup
 pub mod Shell
 pub mod StartText
-pub mod Starts
-pub mod State

@@ -7,9 +7,7 @@ use Rattle.cs_machine.specs.Setup.{peers_of}
 use Rattle.cs_machine.specs.declared.hook_call.HookCall.{HookCall as TheCall}
 use Rattle.cs_machine.specs.declared.setup.JobNote.{JobNote}
 use Rattle.cs_machine.specs.declared.setup.Setup.{Setup}
-use Rattle.cs_machine.specs.declared.state.State.{State}
 use Rattle.cs_machine.specs.HookCall.{Keeps}
-use Rattle.cs_machine.specs.State.{Takes}
 
 -- `2024-09-13T23:30:01Z`, of a moment in seconds since 1970-01-01 00:00 UTC
 abbrev pub moment_text : ℕ → List ℕ
@@ -48,11 +46,3 @@ abbrev pub IsCalled : Setup → List ℕ → Bool → List TheCall → List TheC
 IsCalled setup words kept before after =
     ((setup.has_hooks ≡ true) × Keeps words setup.jobs.now before after)
     ⊎ (((setup.has_hooks && kept) ≡ false) × (after ≡ before))
-
--- what a line that is told in this second does to the state and to the calls, as far as there was
--- memory
-abbrev pub NotesLine : Setup → List ℕ → Option ℕ → State → State → List TheCall → List TheCall
-    → Type 0
-NotesLine setup words at before after calls calls' =
-    (kept : Bool) × Takes words at setup.jobs.now kept before after
-    × IsCalled setup words kept calls calls'

@@ -1,6 +1,4 @@
 //! How often each kind of event was told in a log.
-ghost use Rattle.std.specs.Prelude.{◌≡◌};
-ghost use Rattle.cs_machine.specs.State.{counted, counted_in};
 
 /// How many lines of a log tell each of these; the last count of 64 bits stays.
 #[derive(Clone, Copy)]
@@ -18,9 +16,7 @@ pub(crate) struct Counts {
 }
 
 /// A count, and one more where the words begin so.
-fn counted(count: u64, words: &[u8], front: &[u8]) -> u64
-    ensures { result ≡ counted count words.now front.now }
-{
+fn counted(count: u64, words: &[u8], front: &[u8]) -> u64 {
     if words.starts_with(front) {
         count.saturating_add(1)
     } else {
@@ -39,9 +35,7 @@ impl Counts {
     };
 
     /// The counts with one line more.
-    pub(crate) fn with(self, words: &[u8]) -> Counts
-        ensures { result ≡ counted_in words.now self }
-    {
+    pub(crate) fn with(self, words: &[u8]) -> Counts {
         Counts {
             skipped: counted(self.skipped, words, b"skipped "),
             overruns: counted(self.overruns, words, b"overrun "),

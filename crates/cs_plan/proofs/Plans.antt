@@ -1,19 +1,15 @@
 -- What a whole plan is to a history.
-use Rattle.std.proofs.Common.{◌≡◌, ℕ, zero, suc, ◌+◌, ◌-◌, ◌<◌, ◌≤◌, false, List, [], ◌∷◌, drop, length, get_or, Option, Some, None, refl, sym, ap, subst, ◌∙◌, arith}
+use Rattle.std.proofs.Common.{◌≡◌, ℕ, zero, suc, ◌+◌, ◌-◌, ◌<◌, ◌≤◌, List, [], ◌∷◌, drop, length, get_or, Option, Some, None, refl, sym, ap, subst, ◌∙◌, arith}
 use Rattle.std.specs.Prelude.{All, IfSome, IsSome}
-use Rattle.std.proofs.lemmas.Bool.{le-ltb, lt-leb, ltb-false, eq-eqb}
+use Rattle.std.proofs.lemmas.Bool.{ltb-false}
 use Rattle.std.proofs.lemmas.List.{length-append, length-map, get_or-drop}
 use Rattle.std.proofs.lemmas.List.FromFn.{length-range_with_len}
 use Rattle.std.proofs.lemmas.List.Elements.{All-head, All-tail}
-use Rattle.cs_anacrontab.specs.Anacrontab.{IsPossiblePeriod}
-use Rattle.cs_anacrontab.specs.Period.{is_due as is_period_over}
-use Rattle.cs_anacrontab.specs.declared.period.Period.{Period}
-use Rattle.cs_anacrontab.specs.declared.period.Period.TheVariants.{Days, Monthly}
 use Rattle.cs_history.specs.declared.mode.Mode.TheVariants.{Plain}
 use Rattle.cs_history.specs.Plan.{IsPlan, takes}
 use Rattle.cs_plan.specs.declared.limits.TheConstants.{MAX_MINUTES}
 use Rattle.cs_plan.specs.Job.{DeclaredJob, IsPossible}
-use Rattle.cs_plan.specs.Plan.{Declared, IsWhole, IsListed, crons, places_of, no_job, no_line, job_at, line_of, as_plan}
+use Rattle.cs_plan.specs.Plan.{Declared, IsWhole, IsListed, crons, places_of, no_job, job_at, as_plan}
 
 -- what holds of each and of the default holds at each place
 pub at_or : {X : Type 0} (P : X → Type 0) (xs : List X) (j : ℕ) (d : X) → All P xs → P d → P (get_or xs j d)
@@ -62,14 +58,3 @@ within d w = omega (arith, count d w)
 
 pub limits : (d : Declared) → IsWhole d → (j : ℕ) → (as_plan d).limit j ≤ MAX_MINUTES
 limits d w j = (possible d w j).max.1
-
--- no period is over on the day of its stamp
-not_over : (period : Period) (day : ℕ) → IsPossiblePeriod period → is_period_over period (Some day) day ≡ false
-not_over (Days n) day long = rw (le-ltb day day (omega arith), lt-leb (day + n) day (omega (arith, long.0))) refl
-not_over Monthly day long = rw (le-ltb day day (omega arith), eq-eqb _ _ refl, eq-eqb _ _ refl) refl
-
-pub stamped : (d : Declared) → IsWhole d → (j day : ℕ) → (as_plan d).owed j (Some day) day ≡ false
-stamped d w j day = not_over (line_of d j).period day (at_or (λ line. IsPossiblePeriod line.period) d.anacrontab.lines (j - crons d) no_line periods tt)
-  where
-    periods : All (λ line. IsPossiblePeriod line.period) d.anacrontab.lines
-    periods = λ k x low. (w.lines k x low).period

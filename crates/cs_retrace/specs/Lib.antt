@@ -1,7 +1,3 @@
 pub mod Words
-pub mod Moment
-pub mod Run
-pub mod Told
-pub mod Pieces
-pub mod Trace
-pub mod Script
+pub mod Order
+pub mod Maxes

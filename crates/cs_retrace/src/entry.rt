@@ -1,6 +1,6 @@
 //! What happened in one minute, as a line of a script.
 ghost use Rattle.std.specs.Prelude.{◌≡◌};
-ghost use Rattle.cs_retrace.specs.Trace.{place_of, turn_number};
+ghost use Rattle.cs_retrace.specs.Order.{place_of, turn_number};
 
 use cs_civil::Bytes;
 

@@ -2,15 +2,15 @@
 #![tactic(auto)]
 
 mod entry;
+mod maxes;
 mod moment;
-mod pieces;
 mod retracing;
-pub mod run;
 pub mod stamp;
-mod told;
+pub mod told;
 mod trace;
 pub mod words;
 mod writing;
 
+pub use maxes::{Given, LONGEST_MAX, MaxFault, max_of, read_maxes};
 pub use moment::Moment;
 pub use retracing::{MOST_MINUTES, retrace};

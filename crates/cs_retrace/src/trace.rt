@@ -1,22 +1,11 @@
 //! The events that the lines of a log tell.
-ghost use Rattle.std.specs.Prelude.{◌≡◌, IfOk, OnOk};
-ghost use Rattle.cs_retrace.specs.Told.{told_in, outage_in};
-ghost use Rattle.cs_retrace.specs.Trace.{nothing, with_event, with_next, gone, come, reached};
-ghost use Rattle.cs_retrace.specs.Trace.{settled_minute, begun, is_waiting, got, started, waits};
-ghost use Rattle.cs_retrace.specs.Trace.{skipped, ended, overrun, behind_run, behind_outage};
-ghost use Rattle.cs_retrace.specs.Trace.{behind_end, behind_other, behind_told, opened, begun_anew};
-ghost use Rattle.cs_retrace.specs.Trace.{behind_words, by_clock, behind_line, traced};
-
 use crate::entry::{Entry, Turn};
 use crate::moment::Moment;
-use crate::pieces::{begin_line, catch_line, end_line, got_line, up_line};
 use crate::stamp::time_and_rest;
-use crate::told::{Verb, begins, is_end, outage, told};
-use cs_civil::Sequence;
-use cs_table::text::first_line;
+use crate::told::{RunTold, Verb, begins, is_end, outage, told};
+use cs_civil::{Bytes, Minute, date_text};
 use indexmap::IndexMap;
 use std::alloc::{AllocError, Global};
-use std::marker::Model;
 
 /// What is known behind some lines of a log.
 #[derive(Drop)]
@@ -25,9 +14,11 @@ pub(crate) struct Trace {
     pub(crate) opening: Option<(u64, bool)>,
     /// How many daemons began.
     pub(crate) daemons: u64,
+    /// Whether the last one starts nothing more.
     is_over: bool,
     /// The latest minute.
     pub(crate) latest: u64,
+    /// The minute of the last end.
     freed: u64,
     /// Of the runs that were told to wait, by line and minute, whether they wait still.
     waiting: IndexMap<(u64, u64), bool>,
@@ -35,26 +26,16 @@ pub(crate) struct Trace {
     pub(crate) events: Vec<Entry>,
 }
 
-impl Model for Trace {
-    ghost use Rattle.cs_retrace.specs.Trace.{Traced};
-
-    ghost Value = { Traced };
-
-    ghost view = { λ t. record {
-      opening = t.opening;
-      daemons = t.daemons;
-      is_over = t.is_over;
-      latest = t.latest;
-      freed = t.freed;
-      waiting = t.waiting.entries;
-      events = t.events.items;
-    } };
+/// A minute from 1970-01-02 to 9999-12-31; another one is no date.
+pub(crate) fn date(at: u64) -> [u8; 16] {
+    match Minute::new(at) {
+        Some(minute) => date_text(minute),
+        None => [b'?'; 16],
+    }
 }
 
 /// The second by the plan's clock.
-fn by_clock(offset: i16, second: u64) -> u64
-    ensures { result ≡ by_clock offset second }
-{
+fn by_clock(offset: i16, second: u64) -> u64 {
     let ahead = 60 * u64::from(offset.unsigned_abs());
     if offset < 0 {
         second.saturating_sub(ahead)
@@ -65,9 +46,7 @@ fn by_clock(offset: i16, second: u64) -> u64
 
 impl Trace {
     /// No line yet.
-    pub(crate) fn new(alloc: Global) -> Trace
-        ensures { result ≡ nothing }
-    {
+    pub(crate) fn new(alloc: Global) -> Trace {
         Trace {
             opening: None,
             daemons: 0,
@@ -79,43 +58,52 @@ impl Trace {
         }
     }
 
-    fn put(&mut self, at: u64, turn: Turn, order: u64, text: Vec<u8>) -> Result<(), AllocError>
-        ensures { OnOk result (self.new ≡ with_event self.old at turn order text.items) }
-    {
+    /// Adds an event, whose line has these words; with no words only its minute is known.
+    fn put(
+        &mut self,
+        alloc: Global,
+        at: u64,
+        turn: Turn,
+        order: u64,
+        words: &[&[u8]],
+    ) -> Result<(), AllocError> {
+        let mut text = Vec::new(alloc);
+        for word in words {
+            text.extend_from_slice(word)?;
+        }
+        self.latest = self.latest.max(at);
         self.events.push(Entry {
             at,
             turn,
             order,
-            text: Sequence::from_vec(text),
+            text: Bytes::from_vec(text),
         })?;
-        self.latest = self.latest.max(at);
         Ok(())
     }
 
-    fn put_next(&mut self, at: u64, turn: Turn, text: Vec<u8>) -> Result<(), AllocError>
-        ensures { OnOk result (self.new ≡ with_next self.old at turn text.items) }
-    {
+    /// Adds an event behind all that the log has told.
+    fn put_next(
+        &mut self,
+        alloc: Global,
+        at: u64,
+        turn: Turn,
+        words: &[&[u8]],
+    ) -> Result<(), AllocError> {
         let order = self.events.len() as u64;
-        self.put(at, turn, order, text)
+        self.put(alloc, at, turn, order, words)
     }
 
-    fn go(&mut self, alloc: Global, at: u64) -> Result<(), AllocError>
-        ensures { OnOk result (self.new ≡ gone self.old at) }
-    {
-        let down = Vec::from_slice(alloc, b"down\n".as_slice())?;
-        self.put_next(at, Turn::Goes, down)
+    fn go(&mut self, alloc: Global, at: u64) -> Result<(), AllocError> {
+        self.put_next(alloc, at, Turn::Goes, &[b"down\n"])
     }
 
-    fn come(&mut self, alloc: Global, at: u64) -> Result<(), AllocError>
-        ensures { OnOk result (self.new ≡ come self.old at) }
-    {
-        let up = up_line(alloc, at)?;
-        self.put_next(at, Turn::Comes, up)
+    fn come(&mut self, alloc: Global, at: u64) -> Result<(), AllocError> {
+        self.put_next(alloc, at, Turn::Comes, &[b"up ", &date(at), b"\n"])
     }
 
-    fn reach(&mut self, alloc: Global, at: u64) -> Result<(), AllocError>
-        ensures { OnOk result (self.new ≡ reached self.old at) }
-    {
+    /// A daemon that starts nothing more is down. For what is told of a later minute it comes up in
+    /// that minute and goes down again: so the time passes, and nothing begins.
+    fn reach(&mut self, alloc: Global, at: u64) -> Result<(), AllocError> {
         if self.is_over && self.latest < at {
             self.come(alloc, at)?;
             self.go(alloc, at)?;
@@ -123,228 +111,115 @@ impl Trace {
         Ok(())
     }
 
-    fn settled_minute(&self, second: u64) -> u64
-        ensures { result ≡ settled_minute self.now second }
-    {
+    /// The minute of a line. The daemon looks at the clock once a second, so what it tells in the first
+    /// two seconds of a minute may have come in the minute before.
+    fn settled_minute(&self, second: u64) -> u64 {
         self.latest.max(second.saturating_sub(2) / 60)
     }
 
-    fn begin(&mut self, alloc: Global, line: u64, name: &[u8], due: u64) -> Result<(), AllocError>
-        ensures { OnOk result (self.new ≡ begun self.old line name.now due) }
-    {
-        let text = begin_line(alloc, name)?;
-        self.put(due, Turn::Begins, line, text)
+    /// A line of the crontab begins in the minute in which it is due, among those of that minute in the
+    /// order of the table.
+    fn begin(&mut self, alloc: Global, line: u64, run: RunTold<'_>) -> Result<(), AllocError> {
+        let words: &[&[u8]] = &[b"begin line ", run.name, b"\n"];
+        self.put(alloc, run.at, Turn::Begins, line, words)
     }
 
-    fn is_waiting(&self, line: u64, due: u64) -> bool
-        ensures { result ≡ is_waiting self.now line due }
-    {
-        match self.waiting.get(&(line, due)) {
+    /// A run that waits gets its lock behind the last end; one that doesn't begins, or is caught up if
+    /// it is an anacron job's.
+    fn start(&mut self, alloc: Global, run: RunTold<'_>) -> Result<(), AllocError> {
+        let Some(line) = run.line else {
+            let words: &[&[u8]] = &[b"catch ", run.name, b"\n"];
+            return self.put_next(alloc, run.at, Turn::Follows, words);
+        };
+        let waits = match self.waiting.get(&(line, run.at)) {
             Some(waits) => *waits,
             None => false,
-        }
-    }
-
-    fn get(&mut self, alloc: Global, line: u64, name: &[u8], due: u64) -> Result<(), AllocError>
-        ensures { OnOk result (self.new ≡ got self.old line name.now due) }
-    {
-        let text = got_line(alloc, name, due)?;
-        self.put_next(due.max(self.freed), Turn::Follows, text)?;
-        self.waiting.insert((line, due), false)?;
-        Ok(())
-    }
-
-    fn start(
-        &mut self,
-        alloc: Global,
-        line: Option<u64>,
-        name: &[u8],
-        at: u64,
-    ) -> Result<(), AllocError>
-        ensures { OnOk result (self.new ≡ started self.old line name.now at) }
-    {
-        match line {
-            Some(line) if self.is_waiting(line, at) => self.get(alloc, line, name, at),
-            Some(line) => self.begin(alloc, line, name, at),
-            None => {
-                let text = catch_line(alloc, name)?;
-                self.put_next(at, Turn::Follows, text)
-            }
-        }
-    }
-
-    fn wait(
-        &mut self,
-        alloc: Global,
-        line: Option<u64>,
-        name: &[u8],
-        at: u64,
-    ) -> Result<(), AllocError>
-        ensures { OnOk result (self.new ≡ waits self.old line name.now at) }
-    {
-        let Some(line) = line else {
-            return Ok(());
         };
-        self.begin(alloc, line, name, at)?;
-        self.waiting.insert((line, at), true)?;
+        if !waits {
+            return self.begin(alloc, line, run);
+        }
+        let words: &[&[u8]] = &[b"got line ", run.name, b" ", &date(run.at), b"\n"];
+        self.put_next(alloc, run.at.max(self.freed), Turn::Follows, words)?;
+        self.waiting.insert((line, run.at), false)?;
         Ok(())
     }
 
-    fn skip(
-        &mut self,
-        alloc: Global,
-        line: Option<u64>,
-        name: &[u8],
-        at: u64,
-    ) -> Result<(), AllocError>
-        ensures { OnOk result (self.new ≡ skipped self.old line name.now at) }
-    {
-        match line {
-            Some(line) => self.begin(alloc, line, name, at),
-            None => Ok(()),
-        }
-    }
-
-    fn end(
-        &mut self,
-        alloc: Global,
-        second: u64,
-        line: Option<u64>,
-        name: &[u8],
-        at: u64,
-    ) -> Result<(), AllocError>
-        ensures { OnOk result (self.new ≡ ended self.old second line name.now at) }
-    {
+    fn end(&mut self, alloc: Global, second: u64, run: RunTold<'_>) -> Result<(), AllocError> {
         let minute = self.settled_minute(second);
         self.reach(alloc, minute)?;
-        let text = end_line(alloc, line, name, at)?;
-        self.put_next(minute, Turn::Follows, text)?;
+        let kind: &[u8] = if run.line.is_some() {
+            b"end line "
+        } else {
+            b"end job "
+        };
+        let words: &[&[u8]] = &[kind, run.name, b" ", &date(run.at), b"\n"];
+        self.put_next(alloc, minute, Turn::Follows, words)?;
         self.freed = minute;
         Ok(())
     }
 
-    fn overrun(&mut self, alloc: Global, second: u64) -> Result<(), AllocError>
-        ensures { OnOk result (self.new ≡ overrun self.old second) }
-    {
-        let minute = second / 60;
-        self.reach(alloc, minute)?;
-        self.put_next(minute, Turn::Follows, Vec::new(alloc))
-    }
-
-    fn run(
-        &mut self,
-        alloc: Global,
-        second: u64,
-        verb: Verb,
-        line: Option<u64>,
-        name: &[u8],
-        at: u64,
-    ) -> Result<(), AllocError>
-        ensures { OnOk result (self.new ≡ behind_run self.old second verb line name.now at) }
-    {
-        match verb {
-            Verb::Started => self.start(alloc, line, name, at),
-            Verb::Waiting => self.wait(alloc, line, name, at),
-            Verb::Skipped => self.skip(alloc, line, name, at),
-            Verb::Ended => self.end(alloc, second, line, name, at),
-            Verb::Overrun => self.overrun(alloc, second),
+    /// Takes what is told of a run. Only lines of the crontab wait or are skipped. An overrun is told in
+    /// the minute from which on the run is late, so that this minute has come.
+    fn run(&mut self, alloc: Global, second: u64, run: RunTold<'_>) -> Result<(), AllocError> {
+        match (run.verb, run.line) {
+            (Verb::Started, _) => self.start(alloc, run),
+            (Verb::Waiting, Some(line)) => {
+                self.begin(alloc, line, run)?;
+                self.waiting.insert((line, run.at), true)?;
+                Ok(())
+            }
+            (Verb::Skipped, Some(line)) => self.begin(alloc, line, run),
+            (Verb::Ended, _) => self.end(alloc, second, run),
+            (Verb::NotStarted, _) => self.end(alloc, second, run),
+            (Verb::Overrun, _) => {
+                self.reach(alloc, second / 60)?;
+                self.put_next(alloc, second / 60, Turn::Follows, &[])
+            }
+            _ => Ok(()),
         }
     }
 
-    fn outage(&mut self, alloc: Global, minutes: (u64, u64)) -> Result<(), AllocError>
-        ensures { OnOk result (self.new ≡ behind_outage self.old minutes) }
-    {
-        let (from, to) = minutes;
-        self.go(alloc, from)?;
-        self.come(alloc, to)
-    }
-
-    fn end_daemon(&mut self, alloc: Global, second: u64) -> Result<(), AllocError>
-        ensures { OnOk result (self.new ≡ behind_end self.old second) }
-    {
-        if self.is_over {
-            return Ok(());
+    /// Takes what is told of the daemon: in an outage it is down from the first minute to the second,
+    /// and one that starts nothing more goes down. Each other line is passed over.
+    fn other(&mut self, alloc: Global, second: u64, text: &[u8]) -> Result<(), AllocError> {
+        if let Some((from, to)) = outage(text) {
+            self.go(alloc, from)?;
+            return self.come(alloc, to);
         }
-        let minute = self.settled_minute(second);
-        self.go(alloc, minute)?;
-        self.is_over = true;
+        if is_end(text) && !self.is_over {
+            let minute = self.settled_minute(second);
+            self.go(alloc, minute)?;
+            self.is_over = true;
+        }
         Ok(())
     }
 
-    fn other(&mut self, alloc: Global, second: u64, text: &[u8]) -> Result<(), AllocError>
-        ensures { OnOk result
-            (self.new ≡ behind_other self.old second text.now (outage_in text.now)) }
-    {
-        match outage(text) {
-            Some(minutes) => self.outage(alloc, minutes),
-            None if is_end(text) => self.end_daemon(alloc, second),
-            None => Ok(()),
+    /// Takes the next line, without its newline. A daemon that begins comes up in that minute, and
+    /// nothing before it counts; a log that begins amid a daemon's lines starts with the minute before.
+    /// A line without a time is passed over. The only error is out of memory.
+    pub(crate) fn line(
+        &mut self,
+        alloc: Global,
+        offset: i16,
+        line: &[u8],
+    ) -> Result<(), AllocError> {
+        let Some((Moment::Universal(second), text)) = time_and_rest(line) else {
+            return Ok(());
+        };
+        let second = by_clock(offset, second);
+        if begins(text) {
+            let daemons = self.daemons.saturating_add(1);
+            *self = Trace::new(alloc);
+            self.daemons = daemons;
+            self.opening = Some((second / 60, true));
+            return Ok(());
         }
-    }
-
-    fn told(&mut self, alloc: Global, second: u64, text: &[u8]) -> Result<(), AllocError>
-        ensures { OnOk result
-            (self.new ≡ behind_told self.old second text.now (told_in text.now)) }
-    {
-        match told(text) {
-            Some((verb, line, name, at)) => self.run(alloc, second, verb, line, name, at),
-            None => self.other(alloc, second, text),
-        }
-    }
-
-    fn open(&mut self, second: u64)
-        ensures { self.new ≡ opened self.old second }
-    {
         if self.opening.is_none() {
             self.opening = Some(((second / 60).saturating_sub(1), false));
         }
-    }
-
-    fn begin_anew(&mut self, alloc: Global, second: u64)
-        ensures { self.new ≡ begun_anew self.old second }
-    {
-        let daemons = self.daemons.saturating_add(1);
-        *self = Trace::new(alloc);
-        self.daemons = daemons;
-        self.opening = Some((second / 60, true));
-    }
-
-    fn words(&mut self, alloc: Global, second: u64, text: &[u8]) -> Result<(), AllocError>
-        ensures { OnOk result (self.new ≡ behind_words self.old second text.now) }
-    {
-        if begins(text) {
-            self.begin_anew(alloc, second);
-            return Ok(());
-        }
-        self.open(second);
-        self.told(alloc, second, text)
-    }
-
-    /// Takes the next line, without its newline. The only error is out of memory.
-    fn line(&mut self, alloc: Global, offset: i16, text: &[u8]) -> Result<(), AllocError>
-        ensures { OnOk result (self.new ≡ behind_line offset self.old text.now) }
-    {
-        match time_and_rest(text) {
-            Some((Moment::Universal(second), words)) => {
-                self.words(alloc, by_clock(offset, second), words)
-            }
-            Some((Moment::OfYear(_), _)) => Ok(()),
-            None => Ok(()),
+        match told(text) {
+            Some(run) => self.run(alloc, second, run),
+            None => self.other(alloc, second, text),
         }
     }
-}
-
-/// What a log tells. The only error is out of memory.
-#[tactic(auto, unfolding(cs_table::specs::Text::lines_of))]
-pub(crate) fn trace_of(alloc: Global, offset: i16, log: &[u8]) -> Result<Trace, AllocError>
-    ensures { IfOk result (λ trace. trace ≡ traced offset log.now) }
-{
-    let mut trace = Trace::new(alloc);
-    let mut rest = log;
-    while !rest.is_empty() {
-        let (line, more) = first_line(rest);
-        trace.line(alloc, offset, line)?;
-        rest = more;
-    }
-    Ok(trace)
 }

@@ -3,7 +3,7 @@ ghost use Rattle.std.specs.Prelude.{◌≡◌, ◌≤◌, true, min, bytes_eq, I
 ghost use Rattle.std.specs.List.{list_all};
 ghost use Rattle.cs_table.specs.Text.{is_digit, decimal};
 ghost use Rattle.cs_table.specs.SettingReading.{quoted_at};
-ghost use Rattle.cs_retrace.specs.Words.{behind, before_last, number_of};
+ghost use Rattle.cs_retrace.specs.Words.{behind, number_of};
 
 use memchr::memchr;
 
@@ -31,17 +31,6 @@ pub fn behind<'t>(start: &[u8], text: &'t [u8]) -> Option<&'t [u8]>
         return None;
     }
     Some(&text[start.len()..])
-}
-
-/// What stands before this byte, where the text ends with it.
-#[tactic(auto, unfolding(crate::specs::Words::before_last))]
-pub fn before_last(byte: u8, text: &[u8]) -> Option<&[u8]>
-    ensures { option_map (λ front. front.now) result ≡ before_last byte text.now }
-{
-    if !text.ends_with(&[byte]) {
-        return None;
-    }
-    Some(&text[..text.len() - 1])
 }
 
 /// The number of decimal digits, where the text is nothing else and it is at most 999,999,999,999.

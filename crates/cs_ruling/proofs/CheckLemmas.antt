@@ -1,10 +1,7 @@
 -- What was accepted, and the files that denote it.
-use Rattle.std.proofs.Common.{◌≡◌, ◌≢◌, ◌<◌, ◌∙◌, ℕ, true, List, Option, Some, None, IfSome, Result, Ok, Err, IfOk, ap, inl, inr, length, nat_lt, option_map, refl, subst, sym}
+use Rattle.std.proofs.Common.{◌≡◌, ◌≢◌, ◌<◌, ◌∙◌, ℕ, true, List, [], Option, Some, None, IfSome, Result, Ok, Err, IfErr, IfOk, ap, inl, inr, length, nat_lt, refl, subst}
 use Rattle.std.proofs.lemmas.Bool.{lt-ltb}
 use Rattle.std.proofs.lemmas.Option.{IfSome_then}
-use Rattle.cs_crontab.specs.Crontab.{Table}
-use Rattle.cs_anacrontab.specs.Anacrontab.{Table as JobTable}
-use Rattle.cs_plan.specs.Plan.{Declared}
 use Rattle.cs_place.specs.declared.places.Place.{Place}
 use Rattle.cs_claims.specs.Certificate.{content}
 use Rattle.cs_claims.specs.Content.{Content}
@@ -12,31 +9,57 @@ use Rattle.cs_cert.specs.Denoted.{certificate_by}
 use Rattle.cs_claims.specs.declared.certificate.Certificate.{Certificate}
 use Rattle.cs_claims.specs.declared.fault.CertFault.TheVariants.{TooLong}
 use Rattle.cs_claims.specs.declared.limits.TheConstants.{MAX_CERTIFICATE}
+use Rattle.cs_theorem.specs.Faults.{Fault as Broken}
+use Rattle.cs_check.specs.Case.{fault_of}
 use Rattle.cs_check.specs.Checked.{certificate_in, plan_in}
 use Rattle.cs_check.specs.declared.checked.Checked.{Checked}
-use Rattle.cs_args.specs.Asked.{AskedCheck}
-use Rattle.cs_ruling.specs.Check.{AreDigestsOf, AreRead, IsDigestAt, IsDigestOf, ReadsCertificate, said}
+use Rattle.cs_args.specs.Asked.{AskedCheck, AskedRun}
+use Rattle.cs_ruling.specs.Answer.{AnswersRun, IfEnds, IsRuled}
+use Rattle.cs_ruling.specs.Check.{AreDigestsOf, FindsClaimed, IsDigestAt, IsDigestOf, IsVerdict, IsVerdictOn, answer_of, said}
+use Rattle.cs_ruling.specs.Safe.{IsAccepted, IsChecked, IsReplyOn, IsSafe}
+use Rattle.cs_ruling.specs.declared.answer.Answer.{Answer}
+use Rattle.cs_ruling.specs.declared.answer.Answer.TheVariants.{Ends, Reloads, Runs, Stops, Tells}
+use Rattle.cs_ruling.specs.declared.check.Claimed.{Claimed}
 use Rattle.cs_ruling.specs.declared.check.Digests.{Digests}
-use Rattle.cs_files.specs.Reads.{IsRead, MeansIt, PlacesIn, ReadsFitting, without_rest}
-use Rattle.cs_files.specs.declared.fault.Fault.{Fault}
+use Rattle.cs_files.specs.Reads.{IsRead, MeansIt, without_rest}
+use Rattle.cs_files.specs.declared.fault.Fault.{Fault as FilesFault}
 use Rattle.clap.specs.Words.{Text}
 use Rattle.sha2.specs.Sha256.{sha256}
 use Rattle.cs_files.specs.Response.{Ending}
-use Rattle.cs_files.specs.Trouble.{Trouble, ends, trouble_status}
-use Rattle.cs_io.specs.Files.{Failed, IsFresh, IsUpTo}
+use Rattle.cs_files.specs.Trouble.{IsHonest, Trouble, ends, trouble, trouble_status}
+use Rattle.cs_io.specs.Files.{Failed, IsFresh, IsUpTo, Reads}
 use Rattle.cs_files.specs.Trouble.{InAnacrontab, InCertificate, InCrontab, InDeclarations, InGathered, InScript, InWords, NoTimeZone, Unread}
 
--- what was accepted is what was read
-pub are_read : (files : List ℕ → Option (List ℕ)) (a : AskedCheck) (tables : Table × JobTable) (places : List Place) (before : Failed) (plan : Declared) (x : Content) (found : Result Checked Ending)
-    → PlacesIn files a.table tables.0 places → ReadsFitting files places tables a.declarations before before (Ok plan) → ReadsCertificate files a.certificate before before (Ok x)
-    → IfOk found (λ checked. (plan_in checked ≡ plan) × (certificate_in checked ≡ x)) → IfOk found (AreRead files a tables before)
-are_read files a tables places before plan x (Err answer) placed one two same = same
-are_read files a tables places before plan x (Ok checked) placed one two same = record {
-  places = places;
-  placed = placed;
-  plan = subst (λ (p : Declared). ReadsFitting files places tables a.declarations before before (Ok p)) (sym same.0) one;
-  certificate = subst (λ (d : Content). ReadsCertificate files a.certificate before before (Ok d)) (sym same.1) two;
-}
+-- what the checker accepts of what is claimed
+pub accepted : (x : Claimed) (checked : Checked) (places : List Place) (ruled : Result Checked Ending)
+    → places ≡ x.planned.places → ruled ≡ Ok checked → IsVerdict x.planned.plan places (fault_of x.planned.plan (content x.certificate)) (answer_of ruled)
+    → IfOk ruled (λ c. (plan_in c ≡ x.planned.plan) × (certificate_in c ≡ content x.certificate)) → IfOk ruled IsSafe → IsAccepted x checked
+accepted x checked places ruled same is verdict kept safe =
+    let fault = fault_of x.planned.plan (content x.certificate) in
+    let pair = subst (λ (r : Result Checked Ending). IfOk r (λ c. (plan_in c ≡ x.planned.plan) × (certificate_in c ≡ content x.certificate))) is kept in
+    record {
+      plan = pair.0;
+      certificate = pair.1;
+      verdict = subst (λ (ps : List Place). IsVerdict x.planned.plan ps fault (answer_of (Ok checked))) same (subst (λ (r : Result Checked Ending). IsVerdict x.planned.plan places fault (answer_of r)) is verdict);
+      safe = subst (λ (r : Result Checked Ending). IfOk r IsSafe) is safe;
+    }
+
+-- and what it refuses
+pub refused : (x : Claimed) (answer : Ending) (places : List Place) (ruled : Result Checked Ending)
+    → places ≡ x.planned.places → ruled ≡ Err answer → IsVerdict x.planned.plan places (fault_of x.planned.plan (content x.certificate)) (answer_of ruled)
+    → IfErr ruled (λ a. a.status ≡ 1) → IsVerdictOn x answer × (answer.status ≡ 1)
+refused x answer places ruled same is verdict one =
+    let fault = fault_of x.planned.plan (content x.certificate) in (
+      subst (λ (ps : List Place). IsVerdict x.planned.plan ps fault answer) same (subst (λ (r : Result Checked Ending). IsVerdict x.planned.plan places fault (answer_of r)) is verdict),
+      subst (λ (r : Result Checked Ending). IfErr r (λ a. a.status ≡ 1)) is one,
+    )
+
+pub refused_reply : (x : Claimed) (answer : Ending) (places : List Place) (ruled : Result Checked Ending)
+    → places ≡ x.planned.places → ruled ≡ Err answer → IsVerdict x.planned.plan places (fault_of x.planned.plan (content x.certificate)) (answer_of ruled)
+    → IfErr ruled (λ a. a.status ≡ 1) → IsReplyOn x answer
+refused_reply x answer places ruled same is verdict one =
+    let (said, status) = refused x answer places ruled same is verdict one in
+    record { verdict = said; safe = λ zero. absurd (cc) }
 
 -- bytes that denote a certificate aren't too long
 not_too_long : (bytes : List ℕ) (c : Content) → certificate_by bytes ≡ Ok c → MAX_CERTIFICATE < length bytes → ⊥
@@ -46,7 +69,7 @@ not_too_long bytes c is long =
     let clash : Err TooLong ≡ Ok c = rw past at is in absurd (cc)
 
 -- what was read and hashed is what the file holds
-pub digest_read : (files left : List ℕ → Option (List ℕ)) (path : Text) (bytes : List ℕ) (result : Result (Certificate × List ℕ) Fault)
+pub digest_read : (files left : List ℕ → Option (List ℕ)) (path : Text) (bytes : List ℕ) (result : Result (Certificate × List ℕ) FilesFault)
     → IsFresh files left → IsRead MAX_CERTIFICATE path left bytes → MeansIt {M = Content} (λ b c. certificate_by b ≡ c) InCertificate bytes (said (without_rest result))
     → IfOk result (λ found. found.1 ≡ sha256 bytes) → IfOk result (λ found. IsDigestOf files path (content found.0) found.1)
 digest_read files left path bytes (Err fault) fresh read tells hashed = hashed
@@ -69,13 +92,6 @@ digest_read files left path bytes (Ok found) fresh read tells hashed = record {
 pub digest_at : (files : List ℕ → Option (List ℕ)) (path : Text) (text digest : List ℕ)
     → IfSome (files path) (λ bytes. text ≡ bytes) → digest ≡ sha256 text → IsDigestAt files path digest
 digest_at files path text digest held is = IfSome_then (files path) held (λ bytes same. is ∙ ap sha256 same)
-
--- the digests of what was read are those of what was accepted
-pub digests_accepted : (files : List ℕ → Option (List ℕ)) (a : AskedCheck) (plan : Declared) (x : Content) (digests : Digests) (found : Result Checked Ending)
-    → AreDigestsOf files a x digests → IfOk found (λ checked. (plan_in checked ≡ plan) × (certificate_in checked ≡ x))
-    → IfOk found (λ checked. AreDigestsOf files a (certificate_in checked) digests)
-digests_accepted files a plan x digests (Err answer) are same = same
-digests_accepted files a plan x digests (Ok checked) are same = subst (λ (c : Content). AreDigestsOf files a c digests) (sym same.1) are
 
 -- they are those of what the files hold
 pub digests_of : (files : List ℕ → Option (List ℕ)) (a : AskedCheck) (c : Content) (digests : Digests) (table declarations certificate : List ℕ)
@@ -103,9 +119,45 @@ fails (InScript fault) = λ e. absurd (cc)
 fails (InCertificate fault) = λ e. absurd (cc)
 fails (NoTimeZone path) = λ e. absurd (cc)
 
-pub fault_fails : (w : List ℕ) (o : Option Trouble) (r : Ending) → option_map (ends w) o ≡ Some r → r.status ≢ 0
-fault_fails w None r e = absurd (cc)
-fault_fails w (Some t) r e = λ z. fails t (ap_status (ends w t) r e z)
+-- a fault of the files of `check`, of which it answers no `safe`
+pub check_stopped : (a : AskedCheck) (files : List ℕ → Option (List ℕ)) (w : List ℕ) (before after : Failed) (e : FilesFault)
+    → IfSome (trouble e) (λ t. FindsClaimed files a w before after (Err t)) → IfSome (trouble e) (λ t. IsChecked a files w before after (ends [] t))
+check_stopped a files w before after e found = IfSome_then (trouble e) found (λ t is. record { answer = inl (t, is, refl); safe = λ zero. absurd (fails t zero) })
+
+-- a plan and a certificate that were read, and what is answered of them
+pub check_answered : (a : AskedCheck) (files : List ℕ → Option (List ℕ)) (w : List ℕ) (before after : Failed) (x : Claimed) (r : Ending)
+    → FindsClaimed files a w before after (Ok x) → IsReplyOn x r → IsChecked a files w before after r
+check_answered a files w before after x r found reply = record {
+  answer = inr (x, found, reply.verdict);
+  safe = λ zero. let (checked, accepted) = reply.safe zero in record { claimed = x; read = found.1; checked = checked; accepted = accepted };
+}
+
+-- a fault of the files of `run`
+pub run_stopped : (a : AskedRun) (files : List ℕ → Option (List ℕ)) (w : List ℕ) (before after : Failed) (e : FilesFault)
+    → IfSome (trouble e) (λ t. FindsClaimed files a.check w before after (Err t)) → IfSome (trouble e) (λ t. AnswersRun a files w before after (Ends (ends [] t)))
+run_stopped a files w before after e found = IfSome_then (trouble e) found (λ t is. inl (t, is, refl))
+
+-- a verdict is of another status than that of a failed device
+pub verdict_done : (x : Claimed) (r : Ending) → IsVerdictOn x r → r.status ≢ 6
+verdict_done x r verdict = by_fault (fault_of x.planned.plan (content x.certificate)) verdict
   where
-    ap_status : (a b : Ending) → Some a ≡ Some b → b.status ≡ 0 → a.status ≡ 0
-    ap_status a b same zero = cc
+    by_fault : (f : Option Broken) → IsVerdict x.planned.plan x.planned.places f r → r.status ≢ 6
+    by_fault None (more, is) = λ six. let zero : r.status ≡ 0 = ap (λ (e : Ending). e.status) is in absurd (cc)
+    by_fault (Some fault) (more, is) = λ six. let one : r.status ≡ 1 = ap (λ (e : Ending). e.status) is in absurd (cc)
+
+-- and so is what comes of `run`
+pub ruled_done : (a : AskedRun) (x : Claimed) (answer : Answer) → IsRuled a x answer → IfEnds (λ e. e.status ≢ 6) answer
+ruled_done a x (Ends e) (inl (verdict, one)) = λ six. absurd (cc)
+ruled_done a x (Ends e) (inr others) = λ six. let three : e.status ≡ 3 = ap (λ (r : Ending). r.status) others.told in absurd (cc)
+ruled_done a x (Runs order) is = tt
+ruled_done a x (Stops words) is = absurd is
+ruled_done a x (Reloads folder) is = absurd is
+ruled_done a x (Tells words) is = absurd is
+
+-- an answer of another status than that of a failed device is honest
+pub ends_honest : (failed : Failed) (reads : Reads) (answer : Answer) → IfEnds (λ e. e.status ≢ 6) answer → IfEnds (IsHonest failed reads) answer
+ends_honest failed reads (Ends e) other = λ six. absurd (other six)
+ends_honest failed reads (Runs order) other = tt
+ends_honest failed reads (Stops words) other = tt
+ends_honest failed reads (Reloads folder) other = tt
+ends_honest failed reads (Tells words) other = tt

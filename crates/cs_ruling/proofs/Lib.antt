@@ -1,5 +1,3 @@
 pub mod CheckLemmas
-pub mod FirstOverload
 pub mod Midnight
-pub mod OverloadLemmas
 pub mod TwoDays

@@ -1,16 +1,18 @@
 -- What a call comes to: an answer that ends it, an order to run tables, or words to stop a daemon,
 -- to have it read its files anew or to tell what it does.
-use Rattle.std.specs.Prelude.{◌≡◌, ◌≢◌, ◌⊎◌, ℕ, Bool, true, false, List, [], ◌++◌, Option, codes, ⊤}
+use Rattle.std.specs.Prelude.{◌≡◌, ◌⊎◌, ℕ, Bool, true, false, List, [], Option, Ok, Err, codes, ⊤}
 use Rattle.cs_place.specs.Mark.{is_gathered}
 use Rattle.cs_report.specs.Warning.{plan_notes}
 use Rattle.cs_check.specs.declared.checked.Checked.{Checked}
-use Rattle.cs_plan.specs.Plan.{as_plan}
-use Rattle.cs_check.specs.Checked.{IsHeadline, certificate_in, plan_in}
-use Rattle.cs_args.specs.Asked.{asked_run, AskedRun}
+use Rattle.cs_check.specs.Checked.{plan_in}
+use Rattle.cs_args.specs.Asked.{asked_run}
+use Rattle.cs_args.specs.Asked.{AskedRun}
 use Rattle.cs_io.specs.Files.{Failed}
-use Rattle.cs_ruling.specs.Check.{AnswersCheck, AreDigestsOf, IsProofOf, safe_text}
-use Rattle.cs_ruling.specs.Safe.{IsAcceptance}
-use Rattle.cs_files.specs.Response.{Ending, complaint, done}
+use Rattle.cs_ruling.specs.Check.{FindsClaimed, IsVerdictOn}
+use Rattle.cs_ruling.specs.Safe.{IsAccepted}
+use Rattle.cs_ruling.specs.declared.check.Claimed.{Claimed}
+use Rattle.cs_files.specs.Response.{Ending, complaint}
+use Rattle.cs_files.specs.Trouble.{Trouble, ends}
 use Rattle.cs_ruling.specs.declared.answer.Answer.{Answer}
 use Rattle.cs_ruling.specs.declared.answer.Answer.TheVariants.{Ends, Reloads, Runs, Stops, Tells}
 use Rattle.cs_ruling.specs.declared.answer.Order.{Order}
@@ -35,41 +37,39 @@ IfEnds P (Tells words) = ⊤
 abbrev pub is_of_gathered : Checked → Bool
 is_of_gathered checked = is_gathered (plan_in checked).crontab.settings
 
--- `check` would answer `safe` and the same warnings and notes, and what is to be run is the plan
--- and the certificate that the files denote, of which every legal history in time is safe, as it
--- was asked, with the digests of the files
-pub record IsOrder (a : AskedRun) (files : List ℕ → Option (List ℕ)) (before failed : Failed)
-    (order : Order) : Type 0 where
-  pub safe : AnswersCheck a.check files before failed (done safe_text order.warnings)
-  pub proof : IsProofOf files a.check before order.checked
-  pub headline : IsHeadline (as_plan (plan_in order.checked))
+-- what is to be run is the plan and the certificate that were claimed, which the checker accepts, as it
+-- was asked, with the digests of the files; `check` would answer `safe` and the same notes
+pub record IsOrder (a : AskedRun) (x : Claimed) (order : Order) : Type 0 where
+  pub accepted : IsAccepted x order.checked
   pub own : is_of_gathered order.checked ≡ false
   pub words : asked_run order.words ≡ a
-  pub digests : AreDigestsOf files a.check (certificate_in order.checked) order.digests
+  pub digests : order.digests ≡ x.digests
+  pub notes : order.warnings ≡ plan_notes (plan_in order.checked)
 
 -- the fault of a crontab that was gathered: `run` starts each command as its own user
 abbrev pub gathered_fault : List ℕ
 gathered_fault = codes "crontab: GatheredTable: run can't start commands as other users"
 
--- `check` would answer `safe`, but the crontab was gathered, which is told behind the warnings
-pub record IsOfOthers (a : AskedRun) (files : List ℕ → Option (List ℕ)) (before failed : Failed)
-    (ending : Ending) : Type 0 where
+-- `check` would answer `safe`, but the crontab was gathered, which is told
+pub record IsOfOthers (x : Claimed) (ending : Ending) : Type 0 where
   pub checked : Checked
-  pub warnings : List ℕ
-  pub safe : AnswersCheck a.check files before failed
-      (done safe_text (warnings ++ plan_notes (plan_in checked)))
-  pub accepted : IsAcceptance files a.check before checked warnings
+  pub accepted : IsAccepted x checked
   pub gathered : is_of_gathered checked ≡ true
-  pub told : ending
-      ≡ record { status = 3; out = []; err = warnings ++ complaint gathered_fault }
+  pub told : ending ≡ record { status = 3; out = []; err = complaint gathered_fault }
 
--- what comes of `run`: what `check` answers where that isn't `safe`, or that the crontab was
--- gathered, else an order
-abbrev pub AnswersRun : AskedRun → (List ℕ → Option (List ℕ)) → Failed → Failed → Answer → Type 0
-AnswersRun a files before failed (Ends ending) =
-    (AnswersCheck a.check files before failed ending × (ending.status ≢ 0))
-    ⊎ IsOfOthers a files before failed ending
-AnswersRun a files before failed (Runs order) = IsOrder a files before failed order
-AnswersRun a files before failed (Stops words) = ⊥
-AnswersRun a files before failed (Reloads stamps) = ⊥
-AnswersRun a files before failed (Tells words) = ⊥
+-- what comes of a plan and the certificate that is claimed for it: what `check` answers where that
+-- isn't `safe`, or that the crontab was gathered, else an order
+abbrev pub IsRuled : AskedRun → Claimed → Answer → Type 0
+IsRuled a x (Ends ending) = (IsVerdictOn x ending × (ending.status ≡ 1)) ⊎ IsOfOthers x ending
+IsRuled a x (Runs order) = IsOrder a x order
+IsRuled a x (Stops words) = ⊥
+IsRuled a x (Reloads stamps) = ⊥
+IsRuled a x (Tells words) = ⊥
+
+-- what comes of `run`: that, or the first fault of a file
+abbrev pub AnswersRun : AskedRun → (List ℕ → Option (List ℕ)) → List ℕ → Failed → Failed → Answer
+    → Type 0
+AnswersRun a files w before failed answer =
+    ((t : Trouble) × FindsClaimed files a.check w before failed (Err t)
+    × EndsAs (λ ending. ending ≡ ends [] t) answer)
+    ⊎ ((x : Claimed) × FindsClaimed files a.check w before failed (Ok x) × IsRuled a x answer)

@@ -1,12 +1,10 @@
 -- What is answered to `check`: whether a certificate is accepted for the tables as they are
 -- declared, or the first rule that isn't met.
-use Rattle.std.specs.Prelude.{◌≡◌, ℕ, List, ◌∷◌, ◌++◌, [], Option, Some, None, Result, Ok, Err}
-use Rattle.std.specs.Prelude.{IfSome, codes, ⊤}
+use Rattle.std.specs.Prelude.{◌≡◌, ◌⊎◌, ℕ, List, ◌∷◌, ◌++◌, [], Option, Some, None, Result}
+use Rattle.std.specs.Prelude.{Ok, Err, IfSome, codes}
 use Rattle.std.specs.Result.{result_map_both}
 use Rattle.clap.specs.Words.{Text}
 use Rattle.sha2.specs.Sha256.{sha256}
-use Rattle.cs_crontab.specs.Crontab.{Table}
-use Rattle.cs_anacrontab.specs.Anacrontab.{Table as JobTable}
 use Rattle.cs_plan.specs.Plan.{Declared}
 use Rattle.cs_place.specs.Places.{places_told}
 use Rattle.cs_place.specs.declared.places.Place.{Place}
@@ -16,18 +14,19 @@ use Rattle.cs_claims.specs.Content.{Content}
 use Rattle.cs_cert.specs.Denoted.{certificate_by}
 use Rattle.cs_claims.specs.declared.certificate.Certificate.{Certificate}
 use Rattle.cs_check.specs.Case.{fault_of}
-use Rattle.cs_check.specs.Checked.{certificate_in, plan_in}
+use Rattle.cs_check.specs.Checked.{plan_in}
 use Rattle.cs_check.specs.declared.checked.Checked.{Checked}
 use Rattle.cs_report.specs.Refused.{fault_text}
 use Rattle.cs_report.specs.Warning.{plan_notes}
 use Rattle.cs_args.specs.Asked.{AskedCheck}
 use Rattle.cs_io.specs.Files.{Failed}
 use Rattle.cs_files.specs.Response.{Ending, done}
-use Rattle.cs_files.specs.Reads.{AndThen, Answered, GivesSome, PlacesIn, ReadsAs, ReadsFitting, ReadsTables, WithPlaces}
+use Rattle.cs_files.specs.Asked.{Answers, FindsPlan, IsPlanned}
+use Rattle.cs_files.specs.Reads.{ReadsAs}
+use Rattle.cs_files.specs.declared.asked.Planned.{Planned}
 use Rattle.cs_files.specs.Trouble.{InCertificate, Trouble}
 use Rattle.cs_ruling.specs.declared.check.Digests.{Digests}
-use Rattle.cs_ruling.specs.declared.check.Examined.{Examined}
-use Rattle.cs_ruling.specs.declared.check.Examined.TheVariants.{Accepted, Ended}
+use Rattle.cs_ruling.specs.declared.check.Claimed.{Claimed}
 
 -- what a certificate says that was read, wherever it lies in memory
 abbrev pub said : {E : Type 0} → Result Certificate E → Result Content E
@@ -115,14 +114,28 @@ abbrev pub ReadsCertificate : (List ℕ → Option (List ℕ)) → Text → Fail
     → Result Content Trouble → Type 0
 ReadsCertificate files path = ReadsAs files path (λ bytes c. certificate_by bytes ≡ c) InCertificate
 
--- the declarations and the certificate are read, and the checker says of the two, with the places of
--- the table
-abbrev pub Judges : (List ℕ → Option (List ℕ)) → AskedCheck → Table × JobTable → Failed → Failed
-    → Result Ending Trouble → Type 0
-Judges files a tables = WithPlaces files a.table tables.0 (λ places.
-    AndThen (ReadsFitting files places tables a.declarations) (λ plan.
-    AndThen (ReadsCertificate files a.certificate) (λ c.
-    GivesSome (IsVerdict plan places (fault_of plan c)))))
+-- the files denote this plan and this certificate, with these digests, and this is what is to be
+-- warned of
+pub record IsClaimed (files : List ℕ → Option (List ℕ)) (a : AskedCheck) (w : List ℕ) (failed : Failed)
+    (x : Claimed) : Type 0 where
+  pub planned : IsPlanned files a.table a.anacrontab a.declarations w failed x.planned
+  pub certificate : ReadsCertificate files a.certificate failed failed (Ok (content x.certificate))
+  pub digests : AreDigestsOf files a (content x.certificate) x.digests
+
+-- the plan and then the certificate, each file read in its turn, or the first fault
+abbrev pub FindsClaimed : (List ℕ → Option (List ℕ)) → AskedCheck → List ℕ → Failed → Failed
+    → Result Claimed Trouble → Type 0
+FindsClaimed files a w before after (Ok x) = (after ≡ before) × IsClaimed files a w before x
+FindsClaimed files a w before after (Err t) =
+    FindsPlan files a.table a.anacrontab a.declarations w before after (Err t)
+    ⊎ ((planned : Planned)
+    × IsPlanned files a.table a.anacrontab a.declarations w before planned
+    × ReadsCertificate files a.certificate before after (Err t))
+
+-- what the checker says of a plan and the certificate that is claimed for it
+abbrev pub IsVerdictOn : Claimed → Ending → Type 0
+IsVerdictOn x = IsVerdict x.planned.plan x.planned.places
+    (fault_of x.planned.plan (content x.certificate))
 
 -- `safe` where the checker has accepted the plan, beside the notes on it, else what it says of the
 -- first rule
@@ -130,41 +143,8 @@ abbrev pub answer_of : Result Checked Ending → Ending
 answer_of (Ok checked) = done safe_text (plan_notes (plan_in checked))
 answer_of (Err answer) = answer
 
--- the declarations and the certificate are read, and denote what was accepted
-pub record AreRead (files : List ℕ → Option (List ℕ)) (a : AskedCheck) (tables : Table × JobTable)
-    (failed : Failed) (checked : Checked) : Type 0 where
-  pub places : List Place
-  pub placed : PlacesIn files a.table tables.0 places
-  pub plan : ReadsFitting files places tables a.declarations failed failed (Ok (plan_in checked))
-  pub certificate : ReadsCertificate files a.certificate failed failed (Ok (certificate_in checked))
-
--- the files, each read in its own turn, denote the plan and the certificate that were accepted
-pub record IsProofOf (files : List ℕ → Option (List ℕ)) (a : AskedCheck) (failed : Failed)
-    (checked : Checked) : Type 0 where
-  pub tables : Table × JobTable
-  pub read : ReadsTables files a.table a.anacrontab failed failed (Ok tables)
-  pub rest : AreRead files a tables failed checked
-
 -- what is answered to `check`: the verdict, or the first fault of a file, and no file is read
 -- before its own turn
-abbrev pub AnswersCheck : AskedCheck → (List ℕ → Option (List ℕ)) → Failed → Failed → Ending
-    → Type 0
-AnswersCheck a files =
-    Answered (ReadsTables files a.table a.anacrontab) (λ both. Judges files a both)
-
--- the answer to `check` by what the files come to: `safe`, with what is to be warned of and then
--- the notes on the plan, or another
-abbrev pub ending_of : Examined → Ending
-ending_of (Accepted checked warnings digests) =
-    done safe_text (warnings ++ plan_notes (plan_in checked))
-ending_of (Ended answer) = answer
-
--- what holds of the plan, of the warnings and of the digests where the checker has accepted it
-abbrev pub IfAccepted : Examined → (Checked → List ℕ → Digests → Type 0) → Type 0
-IfAccepted (Accepted checked warnings digests) P = P checked warnings digests
-IfAccepted (Ended answer) P = ⊤
-
--- and of the answer where it has not
-abbrev pub IfEnded : Examined → (Ending → Type 0) → Type 0
-IfEnded (Accepted checked warnings digests) P = ⊤
-IfEnded (Ended answer) P = P answer
+abbrev pub AnswersCheck : AskedCheck → (List ℕ → Option (List ℕ)) → List ℕ → Failed → Failed
+    → Ending → Type 0
+AnswersCheck a files w = Answers (FindsClaimed files a w) IsVerdictOn

@@ -1,5 +1,4 @@
 pub mod Answer
 pub mod Check
 pub mod Loads
-pub mod Overload
 pub mod Safe

@@ -29,7 +29,7 @@ pub enum Answer<'a> {
 pub struct Order<'a> {
     /// The plan, with the certificate that the checker has accepted.
     pub checked: Checked,
-    /// What is to be warned of, and behind it the notes on the plan.
+    /// What is still to be warned of: the notes on the plan.
     pub warnings: Bytes,
     /// What `run` is asked.
     pub words: RunWords<'a>,

@@ -9,8 +9,7 @@ mod overload;
 mod places;
 
 pub use answer::{Answer, Order};
-pub use check::{Digests, answer_check, certificate_from};
+pub use check::{Claimed, Digests, answer_check, find_claimed};
 pub use loads::what_a_minute_needs;
-pub use order::answer_run;
-pub use overload::what_an_overload_tells;
+pub use order::{answer_run, refuse_gathered};
 pub use places::{fault_takers, push_fault_places};

@@ -6,6 +6,7 @@ use Rattle.cs_args.specs.Asked.{AskedRun}
 use Rattle.cs_check.specs.Checked.{IsHeadline, plan_in}
 use Rattle.cs_check.specs.declared.checked.Checked.{Checked}
 use Rattle.cs_ruling.specs.Answer.{IsOrder}
+use Rattle.cs_ruling.specs.declared.check.Claimed.{Claimed}
 use Rattle.cs_ruling.specs.declared.answer.Order.{Order}
 use Rattle.cs_plan.specs.Plan.{Declared, as_plan}
 use Rattle.cs_daemon.specs.declared.end.Cause.{Cause}
@@ -16,7 +17,6 @@ use Rattle.cs_history.specs.Journal.{told}
 use Rattle.cs_history.specs.Plan.{Plan}
 use Rattle.cs_history.specs.declared.event.Event.{Event}
 use Rattle.cs_history.specs.declared.reply.Reply.{Reply}
-use Rattle.cs_io.specs.Files.{Failed}
 use Rattle.cs_keep.specs.Closed.{checked_in, keeping_in}
 use Rattle.cs_keep.specs.Keeping.{IsKept, Keeping, plan_of}
 use Rattle.cs_keep.specs.declared.kept.Kept.{Kept}
@@ -81,10 +81,10 @@ kept_by checked (Some kept) headline same is =
     let plan : (keeping_in kept).core.plan ≡ plan_in checked = sym kept.plan ∙ ap plan_in same in
     ordered_by checked (keeping_in kept) plan (subst (λ (d : Declared). IsHeadline (as_plan d)) (sym plan) headline) is
 
-pub served_journal : (files : List ℕ → Option (List ℕ)) (a : AskedRun) (before failed : Failed) (order : Order) (old new : Sink) (status : ℕ)
-    → IsOrder a files before failed order → (s : IsServed order old new status) → IfSome s.1.end.keep (λ kept. IsOrdered order.checked (keeping_in kept))
-served_journal files a before failed order old new status ordered s =
-    kept_by order.checked s.1.end.keep ordered.headline s.1.run.same s.1.run.kept
+pub served_journal : (a : AskedRun) (x : Claimed) (order : Order) (old new : Sink) (status : ℕ)
+    → IsOrder a x order → (s : IsServed order old new status) → IfSome s.1.end.keep (λ kept. IsOrdered order.checked (keeping_in kept))
+served_journal a x order old new status ordered s =
+    kept_by order.checked s.1.end.keep ordered.accepted.safe.headline s.1.run.same s.1.run.kept
 
 -- so it is of what comes behind an order
 pub next_journal : (a : AskedRun) (order : Order) (old new : Sink) (status : ℕ) → IsOrderOf a order → (s : IsServed order old new status) → IfSome s.1.end.keep (λ kept. IsOrdered order.checked (keeping_in kept))

@@ -1,14 +1,15 @@
 -- What is ordered when a daemon has read its files anew.
 use Rattle.std.specs.Prelude.{◌≡◌, ℕ, false, List, ◌++◌, codes}
 use Rattle.cs_args.specs.Asked.{asked_run, AskedRun}
-use Rattle.cs_claims.specs.Content.{Content}
+use Rattle.cs_claims.specs.Certificate.{content}
 use Rattle.cs_check.specs.Checked.{IsHeadline, certificate_in, plan_in}
 use Rattle.cs_check.specs.declared.checked.Checked.{Checked}
 use Rattle.cs_ruling.specs.Answer.{is_of_gathered}
 use Rattle.cs_ruling.specs.declared.answer.Order.{Order}
 use Rattle.cs_ruling.specs.declared.check.Digests.{Digests}
-use Rattle.cs_plan.specs.Plan.{Declared, as_plan}
-use Rattle.cs_report.specs.Warning.{plan_notes}
+use Rattle.cs_ruling.specs.declared.check.Claimed.{Claimed}
+use Rattle.cs_plan.specs.Plan.{as_plan}
+use Rattle.cs_report.specs.Warning.{plan_notes, warnings}
 use Rattle.cs_serve.specs.declared.anew.Rejection.{Rejection}
 use Rattle.cs_serve.specs.declared.anew.Rejection.TheVariants.{Answered, NoFile, NoLog, NoMemory, NoOutput, StandardInput}
 
@@ -19,14 +20,15 @@ pub record IsOrderOf (a : AskedRun) (order : Order) : Type 0 where
   pub headline : IsHeadline (as_plan (plan_in order.checked))
   pub own : is_of_gathered order.checked ≡ false
 
--- what is accepted of a plan, a certificate, the digests and what is to be warned of that were read:
--- the same, with the notes on the plan behind the warnings
-pub record IsTaken (d : Declared) (c : Content) (read : Digests) (warnings : List ℕ)
-    (checked : Checked) (taken : Digests) (warned : List ℕ) : Type 0 where
-  pub plan : plan_in checked ≡ d
-  pub certificate : certificate_in checked ≡ c
-  pub digests : taken ≡ read
-  pub told : warned ≡ warnings ++ plan_notes d
+-- what is accepted of what files hold: their plan and their certificate, with the digests of the files,
+-- and what is to be warned of, with the notes on the plan behind it
+pub record IsTaken (x : Claimed) (checked : Checked) (taken : Digests) (warned : List ℕ)
+    : Type 0 where
+  pub plan : plan_in checked ≡ x.planned.plan
+  pub certificate : certificate_in checked ≡ content x.certificate
+  pub digests : taken ≡ x.digests
+  pub told : warned ≡ warnings (plan_in checked).crontab (plan_in checked).anacrontab
+      ++ plan_notes (plan_in checked)
 
 -- the status of a reload whose files aren't accepted
 abbrev pub rejected_status : Rejection → ℕ

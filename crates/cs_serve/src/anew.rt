@@ -3,21 +3,18 @@ ghost use Rattle.std.specs.Prelude.{◌≡◌, ◌++◌, IfOk, false};
 ghost use Rattle.cs_args.specs.Asked.{asked_run};
 ghost use Rattle.cs_ruling.specs.Answer.{is_of_gathered};
 ghost use Rattle.cs_files.specs.Response.{status_of};
-ghost use Rattle.cs_claims.specs.Certificate.{content};
 ghost use Rattle.cs_check.specs.Checked.{plan_in};
-ghost use Rattle.cs_report.specs.Warning.{plan_notes};
+ghost use Rattle.cs_report.specs.Warning.{plan_notes, warnings};
 ghost use Rattle.cs_serve.specs.Anew.{IsOrderOf, IsTaken, rejected_status, rejected_text};
 
-use cs_args::{CheckWords, RunWords};
+use cs_args::RunWords;
 use cs_check::{CheckError, Checked, check};
 use cs_civil::Bytes;
-use cs_claims::Certificate;
-use cs_files::{Fault, Response, Status, placed_plan_and_text, read_tables_and_text, text_behind};
-use cs_io::Machine;
-use cs_place::{is_gathered, read_places};
-use cs_plan::Plan;
+use cs_files::{Planned, Response, Status};
+use cs_io::{Machine, Printer};
+use cs_place::is_gathered;
 use cs_report::{fault_text, plan_notes, warnings};
-use cs_ruling::{Digests, Order, certificate_from};
+use cs_ruling::{Claimed, Digests, Order, find_claimed, refuse_gathered};
 use std::alloc::{AllocError, Global};
 use std::fs::OpenOptions;
 use std::rt::Files;
@@ -146,46 +143,39 @@ pub(crate) fn has_output<R: Files>(rt: &R, output: Option<&str>) -> bool {
     }
 }
 
-/// The plan that was checked, unless it was gathered, and what is to be warned of.
-fn accept(
-    alloc: Global,
-    checked: Checked,
-    warnings: Bytes,
-    digests: Digests,
-) -> Result<Accepted, Rejection>
+/// What the checker has accepted, unless the crontab was gathered.
+fn accept(alloc: Global, checked: Checked, digests: Digests) -> Result<Accepted, Rejection>
     ensures { IfOk result (λ accepted. (accepted.checked ≡ checked)
-        × (accepted.warnings ≡ warnings ++ plan_notes (plan_in checked))
+        × (accepted.warnings ≡ warnings (plan_in checked).crontab (plan_in checked).anacrontab
+        ++ plan_notes (plan_in checked))
         × (accepted.digests ≡ digests)) }
 {
-    if is_gathered(checked.plan().crontab().settings()) {
-        let fault = b"crontab: GatheredTable: run can't start commands as other users".as_slice();
-        let told = Response::fault(alloc, Status::BadInput, b"".as_slice(), fault)?;
-        return Err(Rejection::Answered(told));
+    let plan = checked.plan();
+    if is_gathered(plan.crontab().settings()) {
+        return Err(Rejection::Answered(refuse_gathered(alloc)?));
     }
-    let notes = plan_notes(alloc, checked.plan())?;
-    match text_behind(warnings, notes.as_slice()) {
-        Ok(warnings) => Ok(Accepted {
-            checked,
-            warnings,
-            digests,
-        }),
-        Err(_) => Err(Rejection::NoMemory),
-    }
+    let mut told = warnings(alloc, plan.crontab(), plan.anacrontab())?.into_vec();
+    told.extend_from_slice(plan_notes(alloc, plan)?.as_slice())?;
+    Ok(Accepted {
+        checked,
+        warnings: Bytes::from_vec(told),
+        digests,
+    })
 }
 
-/// What the checker rules of a plan and a certificate.
-fn rule(alloc: Global, read: Read) -> Result<Accepted, Rejection>
-    ensures { IfOk result (λ accepted. IsTaken read.plan (content read.certificate) read.digests
-        read.warnings accepted.checked accepted.digests accepted.warnings) }
+/// What the checker rules of what the files hold.
+fn rule(alloc: Global, claimed: Claimed) -> Result<Accepted, Rejection>
+    ensures { IfOk result (λ accepted. IsTaken claimed
+        accepted.checked accepted.digests accepted.warnings) }
 {
-    let Read {
-        plan,
+    let Claimed {
+        planned,
         certificate,
-        warnings,
         digests,
-    } = read;
+    } = claimed;
+    let Planned { plan, .. } = planned;
     match check(alloc, &plan, certificate) {
-        Ok(checked) => accept(alloc, checked, warnings, digests),
+        Ok(checked) => accept(alloc, checked, digests),
         Err(CheckError::Fault(fault)) => {
             let mut text = fault_text(alloc, &plan, &fault)?.into_vec();
             text.extend_from_slice(b"\n")?;
@@ -193,38 +183,6 @@ fn rule(alloc: Global, read: Read) -> Result<Accepted, Rejection>
         }
         Err(CheckError::OutOfMemory) => Err(Rejection::NoMemory),
     }
-}
-
-/// What files hold: a plan and a certificate, what is to be warned of, and the SHA-256 of the files.
-#[derive(Drop)]
-struct Read {
-    plan: Plan,
-    certificate: Certificate,
-    warnings: Bytes,
-    digests: Digests,
-}
-
-/// Reads a plan and a certificate.
-fn read_files<'a, R: Files + Input>(
-    rt: &R,
-    alloc: Global,
-    files: &CheckWords<'a>,
-) -> Result<Read, Fault<'a>> {
-    let mut inputs = Machine::new(rt);
-    let (tables, text) = read_tables_and_text(alloc, &mut inputs, files.table, files.anacrontab)?;
-    let warnings = warnings(alloc, &tables.0, &tables.1)?;
-    let (table, jobs) = tables;
-    let read = read_places(alloc, text.as_slice(), &table)?;
-    let places = read.as_slice();
-    let path = files.declarations;
-    let (plan, terms) = placed_plan_and_text(alloc, &mut inputs, path, table, jobs, places)?;
-    let (certificate, digest) = certificate_from(alloc, &mut inputs, files.certificate)?;
-    Ok(Read {
-        plan,
-        certificate,
-        warnings,
-        digests: Digests::of(text.as_slice(), terms.as_slice(), digest),
-    })
 }
 
 /// Reads the files of these words anew, and checks them, with one thread.
@@ -245,8 +203,9 @@ pub(crate) fn read_anew<R: Files + Input>(
     if !has_output(rt, words.output) {
         return Err(Rejection::NoOutput);
     }
-    match read_files(rt, alloc, &words.check) {
-        Ok(read) => rule(alloc, read),
+    let (mut inputs, mut unheard) = (Machine::new(rt), Printer::new(io::sink()));
+    match find_claimed(alloc, &mut inputs, &mut unheard, &words.check) {
+        Ok(claimed) => rule(alloc, claimed),
         Err(fault) => Err(Rejection::Answered(fault.response(alloc, b"".as_slice())?)),
     }
 }

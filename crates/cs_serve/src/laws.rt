@@ -1,9 +1,9 @@
 //! What an order to run says once it was served, by its status and its keep.
-ghost use Rattle.std.specs.Prelude.{◌≡◌, ◌⊎◌, ◌≤◌, ℕ, IfSome, List, Option, codes};
+ghost use Rattle.std.specs.Prelude.{◌≡◌, ◌⊎◌, ◌≤◌, ℕ, IfSome, codes};
 ghost use Rattle.cs_args.specs.Asked.{AskedRun};
 ghost use Rattle.cs_ruling.specs.Answer.{IsOrder};
 ghost use Rattle.cs_ruling.specs.declared.answer.Order.{Order};
-ghost use Rattle.cs_io.specs.Files.{Failed};
+ghost use Rattle.cs_ruling.specs.declared.check.Claimed.{Claimed};
 ghost use Rattle.cs_keep.specs.Closed.{keeping_in};
 ghost use Rattle.cs_serve.specs.Anew.{IsOrderOf};
 ghost use Rattle.cs_files.specs.Ending.{Sink, Tries};
@@ -15,9 +15,8 @@ ghost use Rattle.cs_serve.specs.Served.{AreCounted, HasNoClock, IsDone, IsFull, 
 /// runs of one exclusive group run at once, two that share its lock excepted, and the capacity was
 /// never exceeded.
 pub fn what_a_served_order_keeps()
-    ensures { (files : List ℕ → Option (List ℕ)) (a : AskedRun) (before failed : Failed)
-        (order : Order) (old new : Sink) (status : ℕ) → IsOrder a files before failed order
-        → (s : IsServed order old new status)
+    ensures { (a : AskedRun) (x : Claimed) (order : Order) (old new : Sink) (status : ℕ)
+        → IsOrder a x order → (s : IsServed order old new status)
         → IfSome s.1.end.keep (λ kept. IsOrdered order.checked (keeping_in kept)) }
 {}
 

@@ -1,6 +1,6 @@
 -- What is answered to `replay`: each event of a script, as the rules of histories have it.
-use Rattle.std.specs.Prelude.{◌≡◌, ◌<◌, ◌≤◌, ◌⊎◌, ℕ, ℤ, Bool, true, false, ◌||◌, if◌then◌else◌}
-use Rattle.std.specs.Prelude.{List, [], ◌++◌, length, Option, Some, None, Result, Ok, Err}
+use Rattle.std.specs.Prelude.{◌≡◌, ◌<◌, ◌⊎◌, ℕ, Bool, true, false, ◌||◌, if◌then◌else◌}
+use Rattle.std.specs.Prelude.{List, [], ◌++◌, length, Option, Some, None, IfSome, Result, Ok, Err}
 use Rattle.clap.specs.Words.{Text}
 use Rattle.cs_crontab.specs.Crontab.{Table}
 use Rattle.cs_anacrontab.specs.Anacrontab.{Table as JobTable}
@@ -11,17 +11,17 @@ use Rattle.cs_report.specs.Grammar.{Numbered}
 use Rattle.cs_report.specs.Script.{Fault as ScriptFault}
 use Rattle.cs_report.specs.declared.script.TheConstants.{MAX_SCRIPT}
 use Rattle.cs_report.specs.declared.script_fault.ScriptFault.TheVariants.{TooLong}
-use Rattle.cs_retrace.specs.Script.{IsRetraced}
-use Rattle.cs_retrace.specs.Trace.{traced}
 use Rattle.cs_args.specs.Asked.{AskedReplay}
 use Rattle.cs_args.specs.declared.question.WordFault.TheVariants.{BadMax}
-use Rattle.cs_io.specs.Files.{Failed}
-use Rattle.cs_files.specs.Reads.{AndThen, Answered, Gives, GivesSome, ReadsAs, ReadsDeclared}
-use Rattle.cs_files.specs.Reads.{ReadsTables, planned}
+use Rattle.cs_io.specs.Files.{Failed, IsUpTo}
+use Rattle.cs_files.specs.Asked.{Answers, AreTables, FindsTables, both_of}
+use Rattle.cs_files.specs.Reads.{Gives, ReadsDeclared, planned}
+use Rattle.cs_files.specs.declared.asked.Tables.{Tables}
+use Rattle.cs_show.specs.declared.replay.Replayable.{Replayable}
 use Rattle.cs_show.specs.Replay.{has_refusal, replay_text}
 use Rattle.cs_show.specs.Verdict.{IsVerdict, MeansPart}
 use Rattle.cs_files.specs.Response.{Ending, done}
-use Rattle.cs_files.specs.Trouble.{InScript, InWords, Trouble}
+use Rattle.cs_files.specs.Trouble.{InScript, InWords, TellsPath, Trouble, ends}
 
 -- the plan of both tables with one longest time for all jobs, if a job may declare that
 abbrev pub plain_planned : Table × JobTable → ℕ → Result Declared Trouble
@@ -35,12 +35,9 @@ abbrev pub ReadsPlan : (List ℕ → Option (List ℕ)) → Table × JobTable �
 ReadsPlan files tables max None = Gives (plain_planned tables max)
 ReadsPlan files tables max (Some path) = ReadsDeclared files tables path
 
--- the script that a log tells, by a clock so many minutes ahead of UTC; none where the log is
--- longer than a script may be, or tells of too many minutes
-abbrev pub IsToldBy : ℤ → List ℕ → Option (List ℕ) → Type 0
-IsToldBy offset log script =
-    ((MAX_SCRIPT < length log) × (script ≡ None))
-    ⊎ ((length log ≤ MAX_SCRIPT) × IsRetraced (traced offset log) script)
+-- the script that a log gives: some text, or none; none where the log is longer than a script may be
+abbrev pub IsToldBy : List ℕ → Option (List ℕ) → Type 0
+IsToldBy log script = MAX_SCRIPT < length log → script ≡ None
 
 abbrev pub too_long : ScriptFault
 too_long = (0, TooLong)
@@ -51,7 +48,7 @@ MeansTold plan None meaning = meaning ≡ Err too_long
 MeansTold plan (Some script) meaning = MeansScript plan script meaning
 
 abbrev pub MeansLog : Declared → List ℕ → Result Numbered ScriptFault → Type 0
-MeansLog plan log meaning = (script : Option (List ℕ)) × IsToldBy plan.offset log script
+MeansLog plan log meaning = (script : Option (List ℕ)) × IsToldBy log script
     × MeansTold plan script meaning
 
 -- with `--judge` a script may be what `judge` prints; with `--log` it is what a log tells
@@ -59,15 +56,10 @@ abbrev pub MeansGiven : Declared → Bool → Bool → List ℕ → Result Numbe
 MeansGiven plan judge false = MeansPart plan judge
 MeansGiven plan judge true = MeansLog plan
 
--- the script at a path, under the plan
-abbrev pub ReadsScript : (List ℕ → Option (List ℕ)) → Declared → Bool → Bool → Text → Failed
-    → Failed → Result Numbered Trouble → Type 0
-ReadsScript files plan judge log path = ReadsAs files path (MeansGiven plan judge log) InScript
-
 -- the text of the script that a log tells
-abbrev pub TellsScript : Declared → List ℕ → Result (List ℕ) ScriptFault → Type 0
-TellsScript plan log (Ok script) = IsToldBy plan.offset log (Some script)
-TellsScript plan log (Err fault) = IsToldBy plan.offset log None × (fault ≡ too_long)
+abbrev pub TellsScript : List ℕ → Result (List ℕ) ScriptFault → Type 0
+TellsScript log (Ok script) = IsToldBy log (Some script)
+TellsScript log (Err fault) = IsToldBy log None × (fault ≡ too_long)
 
 -- the status is 1 where an event was refused
 abbrev pub replayed : Declared → Numbered → Ending
@@ -89,23 +81,52 @@ IsReplayed true plan script answer =
       err = [];
     })
 
--- the script is read, and each event is tried; with `--script` the script that a log tells is shown
-abbrev pub RepliesBy : Bool → (List ℕ → Option (List ℕ)) → AskedReplay → Declared → Failed → Failed
-    → Result Ending Trouble → Type 0
-RepliesBy false files a plan = AndThen (ReadsScript files plan a.judge a.log a.script)
-    (λ script. GivesSome (IsReplayed a.judge plan script))
-RepliesBy true files a plan = AndThen (ReadsAs files a.script (TellsScript plan) InScript)
-    (λ script. Gives (Ok (done script [])))
+-- each event of the script is tried; with `--script` the script that a log tells is shown
+abbrev pub Replies : Bool → AskedReplay → Declared → List ℕ → Result Ending ScriptFault → Type 0
+Replies false a plan text (Ok answer) = (script : Numbered)
+    × MeansGiven plan a.judge a.log text (Ok script) × IsReplayed a.judge plan script answer
+Replies false a plan text (Err fault) = MeansGiven plan a.judge a.log text (Err fault)
+Replies true a plan text (Ok answer) =
+    (script : List ℕ) × TellsScript text (Ok script) × (answer ≡ done script [])
+Replies true a plan text (Err fault) = TellsScript text (Err fault)
 
--- the plan is read first
-abbrev pub Replays : (List ℕ → Option (List ℕ)) → AskedReplay → Table × JobTable → Failed → Failed
-    → Result Ending Trouble → Type 0
-Replays files a tables = AndThen (ReadsPlan files tables a.max a.declarations)
-    (RepliesBy a.show_script files a)
+abbrev pub MeansReply : AskedReplay → Declared → List ℕ → Result Ending ScriptFault → Type 0
+MeansReply a = Replies a.show_script a
+
+-- both tables denote this plan, and these are the bytes of the script, or both are longer than a
+-- script may be
+pub record IsReplayable (files : List ℕ → Option (List ℕ)) (a : AskedReplay) (w : List ℕ)
+    (failed : Failed) (x : Replayable) : Type 0 where
+  pub tables : Tables
+  pub read : AreTables files a.table a.anacrontab w failed tables
+  pub plan : ReadsPlan files (both_of tables) a.max a.declarations failed failed (Ok x.plan)
+  pub script : IfSome (files a.script) (λ text. IsUpTo MAX_SCRIPT text x.script.items)
+
+-- both tables, the plan and then the script, each file read in its turn, or the first fault
+abbrev pub FindsScript : (List ℕ → Option (List ℕ)) → AskedReplay → List ℕ → Failed → Failed
+    → Result Replayable Trouble → Type 0
+FindsScript files a w before after (Ok x) = (after ≡ before) × IsReplayable files a w before x
+FindsScript files a w before after (Err t) =
+    FindsTables files a.table a.anacrontab w before after (Err t)
+    ⊎ ((tables : Tables) × AreTables files a.table a.anacrontab w before tables
+    × (ReadsPlan files (both_of tables) a.max a.declarations before after (Err t)
+    ⊎ ((plan : Declared)
+    × ReadsPlan files (both_of tables) a.max a.declarations before before (Ok plan)
+    × (after a.script ≡ true) × TellsPath a.script t)))
+
+-- what is answered of a script, or of its fault
+abbrev pub replied : Result Ending ScriptFault → Ending
+replied (Ok answer) = answer
+replied (Err fault) = ends [] (InScript fault)
+
+-- so it is, whatever the text that begins with the bytes that were read
+abbrev pub IsReplyTo : AskedReplay → Replayable → Ending → Type 0
+IsReplyTo a x ending = (r : Result Ending ScriptFault)
+    × ((text : List ℕ) → IsUpTo MAX_SCRIPT text x.script.items → MeansReply a x.plan text r)
+    × (ending ≡ replied r)
 
 -- what is answered to `replay`: the replayed script, or that of a log, or the first fault of a file,
 -- and no file is read before its own turn
-abbrev pub AnswersReplay : AskedReplay → (List ℕ → Option (List ℕ)) → Failed → Failed → Ending
-    → Type 0
-AnswersReplay a files =
-    Answered (ReadsTables files a.table a.anacrontab) (λ both. Replays files a both)
+abbrev pub AnswersReplay : AskedReplay → (List ℕ → Option (List ℕ)) → List ℕ → Failed → Failed
+    → Ending → Type 0
+AnswersReplay a files w = Answers (FindsScript files a w) (IsReplyTo a)

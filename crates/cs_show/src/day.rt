@@ -1,21 +1,13 @@
 //! The subcommand `day`.
-ghost use Rattle.std.specs.Prelude.{◌≡◌, ◌++◌, IfErr, IfOk, IfSome, OnOk, flat_map};
-ghost use Rattle.cs_args.specs.Asked.{asked};
-ghost use Rattle.cs_io.specs.Files.{AreReadInTurn, IsFresh};
-ghost use Rattle.cs_report.specs.Warning.{warnings as warnings_text};
-ghost use Rattle.cs_show.specs.DayAnswer.{AnswersDay, anacron_text, line_text, shown};
-ghost use Rattle.cs_show.specs.DayAnswer.{tables_text};
-ghost use Rattle.cs_files.specs.RanOut.{IsWarned};
-ghost use Rattle.cs_files.specs.Trouble.{IsHonest};
-ghost use Rattle.cs_files.specs.Turn.{table_paths};
+ghost use Rattle.std.specs.Prelude.{◌≡◌, ◌++◌, IfOk, OnOk, flat_map};
+ghost use Rattle.cs_show.specs.DayAnswer.{anacron_text, line_text, shown, tables_text};
 
 use crate::day_text::{add_catch_up, add_date, add_job};
-use cs_anacrontab::{Anacrontab, Job};
-use cs_args::{DayWords, Question};
-use cs_crontab::{Crontab, Line, When};
-use cs_files::{Fault, RanOut, Response, read_tables};
-use cs_io::Inputs;
-use cs_report::warnings;
+use cs_anacrontab::Job;
+use cs_args::Question;
+use cs_civil::Bytes;
+use cs_crontab::{Line, When};
+use cs_files::{Response, Tables};
 use std::alloc::{AllocError, Global};
 
 /// Adds what is printed of a command line.
@@ -94,51 +86,16 @@ fn tables_text(
     Ok(text)
 }
 
-/// What is answered of both tables.
-fn show(
+/// Answers `day TABLE DATE MAX [--anacrontab FILE] [--from M] [--to M]`. The only error is want of
+/// memory.
+pub fn answer_day(
     alloc: Global,
     question: Question,
-    table: &Crontab,
-    jobs: &Anacrontab,
-) -> Result<Response, RanOut>
-    ensures value { IfOk result (λ r. r ≡ shown question table.now jobs.now) }
-    ensures warned { IfErr result (λ e. IfSome e.warnings
-        (λ text. text ≡ warnings_text table.now jobs.now)) }
+    tables: &Tables,
+) -> Result<Response, AllocError>
+    ensures { IfOk result (λ r. r ≡ shown question tables.now) }
 {
-    let warnings = warnings(alloc, table, jobs)?;
-    match tables_text(alloc, table.lines(), jobs.lines(), question) {
-        Ok(text) => Ok(Response::done(text, warnings)),
-        Err(AllocError) => Err(RanOut {
-            warnings: Some(warnings),
-        }),
-    }
-}
-
-/// The answer to `day TABLE DATE MAX [--anacrontab FILE] [--from M] [--to M]`.
-pub fn answer_day<I: Inputs>(
-    alloc: Global,
-    request: &DayWords<'_>,
-    inputs: &mut I,
-) -> Result<Response, RanOut>
-    ensures value { IsFresh (I.whole inputs.old) (I.left inputs.old)
-        → IfOk result (AnswersDay (asked request.now) (I.whole inputs.old)
-        (I.failed inputs.old) (I.failed inputs.new)) }
-    ensures status { IfOk result (IsHonest (I.failed inputs.new) (I.reads inputs.new)) }
-    ensures warned { IsFresh (I.whole inputs.old) (I.left inputs.old)
-        → IfErr result (λ e. IsWarned (I.whole inputs.old) (asked request.now).table
-        (asked request.now).anacrontab (I.failed inputs.old)
-        (I.reads inputs.old) (I.reads inputs.new) e.warnings) }
-    ensures turn { AreReadInTurn
-        (table_paths (asked request.now).table (asked request.now).anacrontab)
-        (I.reads inputs.old) (I.reads inputs.new) }
-{
-    let question = match Question::new(request) {
-        Ok(question) => question,
-        Err(fault) => return Ok(Fault::Words(fault).response(alloc, b"".as_slice())?),
-    };
-    let (table, jobs) = match read_tables(alloc, inputs, request.table, request.anacrontab) {
-        Ok(tables) => tables,
-        Err(fault) => return Ok(fault.response(alloc, b"".as_slice())?),
-    };
-    show(alloc, question, &table, &jobs)
+    let (lines, jobs) = (tables.crontab.lines(), tables.jobs.lines());
+    let text = tables_text(alloc, lines, jobs, question)?;
+    Ok(Response::done(text, Bytes::new(alloc)))
 }

@@ -8,4 +8,4 @@ mod replay_text;
 mod verdict;
 
 pub use day::answer_day;
-pub use replay::answer_replay;
+pub use replay::{Replayable, answer_replay, find_script};

@@ -1,15 +1,16 @@
 //! The subcommand `replay`.
-ghost use Rattle.std.specs.Prelude.{◌≡◌, ◌≢◌, ◌++◌, [], ◌∷◌, IfErr, IfOk, OnOk, Some, false, option_map, true};
+ghost use Rattle.std.specs.Prelude.{◌≡◌, ◌≢◌, IfErr, IfOk, OnOk, Some, false, option_map, true};
 ghost use Rattle.cs_args.specs.Asked.{asked_replay};
-ghost use Rattle.cs_io.specs.Files.{AreReadInTurn, IsFresh, IsReadAlone};
-ghost use Rattle.cs_files.specs.RanOut.{IsWarned};
-ghost use Rattle.cs_files.specs.Reads.{MeansIt, ReadsAs};
+ghost use Rattle.cs_io.specs.Files.{AreReadInTurn, IsFresh};
+ghost use Rattle.cs_files.specs.Asked.{Tells, Warns};
+ghost use Rattle.cs_files.specs.Ending.{sink};
+ghost use Rattle.cs_files.specs.Reads.{MeansIt};
 ghost use Rattle.cs_report.specs.Faults.{Means as MeansScript};
-ghost use Rattle.cs_show.specs.Replayed.{AnswersReplay, IsReplayed, IsToldBy, MeansGiven, MeansLog};
-ghost use Rattle.cs_show.specs.Replayed.{ReadsPlan, ReadsScript, RepliesBy, Replays, TellsScript};
-ghost use Rattle.cs_show.specs.Replayed.{too_long};
+ghost use Rattle.cs_show.specs.Replayed.{FindsScript, IsReplayed, IsReplyTo, IsToldBy};
+ghost use Rattle.cs_show.specs.Replayed.{MeansGiven, MeansLog, MeansReply, ReadsPlan, Replies};
+ghost use Rattle.cs_show.specs.Replayed.{TellsScript, too_long};
 ghost use Rattle.cs_show.specs.Verdict.{MeansPart};
-ghost use Rattle.cs_files.specs.Trouble.{CameTo, InScript, IsHonest, IsHonestOf, IsOfContent, trouble};
+ghost use Rattle.cs_files.specs.Trouble.{CameTo, InScript, IsHonestOf, IsOfContent, trouble};
 ghost use Rattle.cs_files.specs.Turn.{replay_paths, some_path};
 
 use crate::replay_text::replay_text;
@@ -18,12 +19,10 @@ use cs_anacrontab::Anacrontab;
 use cs_args::{ReplayWords, WordFault};
 use cs_civil::Bytes;
 use cs_crontab::Crontab;
-use cs_files::{Fault, RanOut, Response, bytes_at, declared_plan_from, read_tables};
-use cs_io::Inputs;
+use cs_files::{Fault, Response, Tables, bytes_at, declared_plan_from, find_tables};
+use cs_io::{Inputs, Output};
 use cs_plan::{Plan, is_possible_max};
-use cs_report::{
-    MAX_SCRIPT, NumberedScript, ScriptError, ScriptFault, read_numbered_script, warnings,
-};
+use cs_report::{MAX_SCRIPT, NumberedScript, ScriptError, ScriptFault, read_numbered_script};
 use cs_retrace::retrace;
 use std::alloc::{AllocError, Global};
 
@@ -83,8 +82,7 @@ fn script_in<'a>(
 
 /// The text of the script that a log tells, or none where either is too long.
 fn told_by(alloc: Global, plan: &Plan, log: &[u8]) -> Result<Option<Vec<u8>>, AllocError>
-    ensures { IfOk result
-        (λ script. IsToldBy plan.now.offset log.now (option_map (λ t. t.items) script)) }
+    ensures { IfOk result (λ script. IsToldBy log.now (option_map (λ t. t.items) script)) }
 {
     if log.len() > MAX_SCRIPT {
         return Ok(None);
@@ -133,54 +131,16 @@ fn script_given<'a>(
     }
 }
 
-/// The script at a path; with `log` that is a log.
-fn script_from<'a, I: Inputs>(
-    alloc: Global,
-    inputs: &mut I,
-    path: &'a str,
-    plan: &Plan,
-    judge: bool,
-    log: bool,
-) -> Result<NumberedScript, Fault<'a>>
-    ensures step { IsFresh (I.whole inputs.old) (I.left inputs.old)
-        → CameTo (ReadsScript (I.whole inputs.old) plan.now judge log path.now
-        (I.failed inputs.old) (I.failed inputs.new)) result }
-    ensures works { OnOk result (I.failed inputs.new ≡ I.failed inputs.old) }
-    ensures status { IfErr result (IsHonestOf (I.failed inputs.new) (I.reads inputs.new)) }
-    ensures alone { IsReadAlone path.now (I.reads inputs.old) (I.reads inputs.new) }
-{
-    let bytes = bytes_at(alloc, inputs, path, MAX_SCRIPT as u32)?;
-    script_given(alloc, plan, judge, log, bytes)
-}
-
 /// The text of the script that a log tells.
 #[tactic(auto, using(crate::proofs::ReplayLemmas::none_tells))]
 fn text_told<'a>(alloc: Global, plan: &Plan, log: &[u8]) -> Result<Bytes, Fault<'a>>
-    ensures value { MeansIt (TellsScript plan.now) InScript log.now result }
+    ensures value { MeansIt TellsScript InScript log.now result }
     ensures status { IfErr result IsOfContent }
 {
     match told_by(alloc, plan, log)? {
         Some(script) => Ok(Bytes::from_vec(script)),
         None => Err(too_long()),
     }
-}
-
-/// The text of the script that the log at a path tells.
-fn text_from<'a, I: Inputs>(
-    alloc: Global,
-    inputs: &mut I,
-    path: &'a str,
-    plan: &Plan,
-) -> Result<Bytes, Fault<'a>>
-    ensures step { IsFresh (I.whole inputs.old) (I.left inputs.old)
-        → CameTo (ReadsAs (I.whole inputs.old) path.now (TellsScript plan.now) InScript
-        (I.failed inputs.old) (I.failed inputs.new)) result }
-    ensures works { OnOk result (I.failed inputs.new ≡ I.failed inputs.old) }
-    ensures status { IfErr result (IsHonestOf (I.failed inputs.new) (I.reads inputs.new)) }
-    ensures alone { IsReadAlone path.now (I.reads inputs.old) (I.reads inputs.new) }
-{
-    let bytes = bytes_at(alloc, inputs, path, MAX_SCRIPT as u32)?;
-    text_told(alloc, plan, bytes.as_slice())
 }
 
 /// What is answered of a script that was read, with `judge` with a verdict.
@@ -203,116 +163,109 @@ fn show(
     Ok(Response::replayed(text, refused || wrong, Bytes::new(alloc)))
 }
 
-/// What is answered of the script at a path.
-fn replayed<'a, I: Inputs>(
-    alloc: Global,
-    inputs: &mut I,
-    request: &ReplayWords<'a>,
-    plan: &Plan,
-) -> Result<Response, Fault<'a>>
-    ensures step { IsFresh (I.whole inputs.old) (I.left inputs.old)
-        → CameTo (RepliesBy false (I.whole inputs.old) (asked_replay request.now) plan.now
-        (I.failed inputs.old) (I.failed inputs.new)) result }
-    ensures status { IfErr result (IsHonestOf (I.failed inputs.new) (I.reads inputs.new)) }
-    ensures alone { IsReadAlone request.now.script.now (I.reads inputs.old) (I.reads inputs.new) }
-    ensures done { IfOk result (λ r. r.status ≢ 6) }
-{
-    let script = script_from(
-        alloc,
-        inputs,
-        request.script,
-        plan,
-        request.judge,
-        request.log,
-    )?;
-    Ok(show(alloc, plan, script, request.judge)?)
+/// The plan of both tables, and the bytes of the script, or of the log.
+#[derive(Drop)]
+pub struct Replayable {
+    /// The plan.
+    pub plan: Plan,
+    /// The bytes, or more of them than a script may have where it is longer.
+    pub script: Vec<u8>,
 }
 
-/// The answer that shows the script that the log at a path tells.
-fn shown<'a, I: Inputs>(
+/// Reads both tables, the declarations and then the script, and writes to standard error what is to be
+/// warned of the tables.
+pub fn find_script<'a, I: Inputs, E: Output>(
     alloc: Global,
     inputs: &mut I,
-    request: &ReplayWords<'a>,
-    plan: &Plan,
-) -> Result<Response, Fault<'a>>
-    ensures step { IsFresh (I.whole inputs.old) (I.left inputs.old)
-        → CameTo (RepliesBy true (I.whole inputs.old) (asked_replay request.now) plan.now
-        (I.failed inputs.old) (I.failed inputs.new)) result }
+    err: &mut E,
+    words: &ReplayWords<'a>,
+) -> Result<Replayable, Fault<'a>>
+    ensures value { IsFresh (I.whole inputs.old) (I.left inputs.old)
+        → Tells (λ w. Warns (I.whole inputs.old) (asked_replay words.now).table
+        (asked_replay words.now).anacrontab (I.failed inputs.old)
+        (I.reads inputs.old) (I.reads inputs.new) w
+        × CameTo (FindsScript (I.whole inputs.old) (asked_replay words.now) w
+        (I.failed inputs.old) (I.failed inputs.new)) result)
+        (sink (E.contents err.old) (E.failed err.old))
+        (sink (E.contents err.new) (E.failed err.new)) }
     ensures status { IfErr result (IsHonestOf (I.failed inputs.new) (I.reads inputs.new)) }
-    ensures alone { IsReadAlone request.now.script.now (I.reads inputs.old) (I.reads inputs.new) }
-    ensures done { IfOk result (λ r. r.status ≢ 6) }
+    ensures turn { AreReadInTurn (replay_paths (asked_replay words.now))
+        (I.reads inputs.old) (I.reads inputs.new) }
 {
-    let script = text_from(alloc, inputs, request.script, plan)?;
+    let tables = find_tables(alloc, inputs, err, words.table, words.anacrontab)?;
+    let Tables { crontab, jobs, .. } = tables;
+    let plan = plan_from(alloc, inputs, words, crontab, jobs)?;
+    let bytes = bytes_at(alloc, inputs, words.script, MAX_SCRIPT as u32)?;
+    Ok(Replayable {
+        plan,
+        script: bytes,
+    })
+}
+
+/// What is answered of the script in the bytes.
+fn replayed<'a>(
+    alloc: Global,
+    words: &ReplayWords<'a>,
+    plan: &Plan,
+    bytes: Vec<u8>,
+) -> Result<Response, Fault<'a>>
+    ensures value { MeansIt (Replies false (asked_replay words.now) plan.now) InScript bytes.items
+        result }
+    ensures status { IfErr result IsOfContent }
+    ensures done { IfOk result (λ answer. answer.status ≢ 6) }
+{
+    let script = script_given(alloc, plan, words.judge, words.log, bytes)?;
+    Ok(show(alloc, plan, script, words.judge)?)
+}
+
+/// The answer that shows the script that the log in the bytes tells.
+fn shown<'a>(
+    alloc: Global,
+    words: &ReplayWords<'a>,
+    plan: &Plan,
+    bytes: Vec<u8>,
+) -> Result<Response, Fault<'a>>
+    ensures value { MeansIt (Replies true (asked_replay words.now) plan.now) InScript bytes.items
+        result }
+    ensures status { IfErr result IsOfContent }
+    ensures done { IfOk result (λ answer. answer.status ≢ 6) }
+{
+    let script = text_told(alloc, plan, bytes.as_slice())?;
     Ok(Response::done(script.into_vec(), Bytes::new(alloc)))
 }
 
-/// What is answered once the plan was made.
-fn answer_of<'a, I: Inputs>(
+/// What is answered of the bytes, as it is asked.
+fn reply<'a>(
     alloc: Global,
-    inputs: &mut I,
-    request: &ReplayWords<'a>,
+    words: &ReplayWords<'a>,
     plan: &Plan,
+    bytes: Vec<u8>,
 ) -> Result<Response, Fault<'a>>
-    ensures step { IsFresh (I.whole inputs.old) (I.left inputs.old)
-        → CameTo (RepliesBy request.now.show_script (I.whole inputs.old) (asked_replay request.now)
-        plan.now (I.failed inputs.old) (I.failed inputs.new)) result }
-    ensures status { IfErr result (IsHonestOf (I.failed inputs.new) (I.reads inputs.new)) }
-    ensures alone { IsReadAlone request.now.script.now (I.reads inputs.old) (I.reads inputs.new) }
-    ensures done { IfOk result (λ r. r.status ≢ 6) }
+    ensures value { MeansIt (MeansReply (asked_replay words.now) plan.now) InScript bytes.items
+        result }
+    ensures status { IfErr result IsOfContent }
+    ensures done { IfOk result (λ answer. answer.status ≢ 6) }
 {
-    if request.show_script {
-        shown(alloc, inputs, request, plan)
+    if words.show_script {
+        shown(alloc, words, plan, bytes)
     } else {
-        replayed(alloc, inputs, request, plan)
+        replayed(alloc, words, plan, bytes)
     }
 }
 
-/// What is answered once both tables were read.
-fn tried<'a, I: Inputs>(
+/// Answers `replay TABLE SCRIPT [--max N] [--anacrontab FILE] [--declarations FILE] [--judge] [--log]
+/// [--script]`. The only error is want of memory.
+pub fn answer_replay(
     alloc: Global,
-    inputs: &mut I,
-    request: &ReplayWords<'a>,
-    table: Crontab,
-    jobs: Anacrontab,
-) -> Result<Response, Fault<'a>>
-    ensures step { IsFresh (I.whole inputs.old) (I.left inputs.old)
-        → CameTo (Replays (I.whole inputs.old) (asked_replay request.now) (table, jobs)
-        (I.failed inputs.old) (I.failed inputs.new)) result }
-    ensures status { IfErr result (IsHonestOf (I.failed inputs.new) (I.reads inputs.new)) }
-    ensures turn { AreReadInTurn (some_path (asked_replay request.now).declarations
-        ++ ((asked_replay request.now).script ∷ []))
-        (I.reads inputs.old) (I.reads inputs.new) }
-    ensures done { IfOk result (λ r. r.status ≢ 6) }
+    words: &ReplayWords<'_>,
+    found: Replayable,
+) -> Result<Response, AllocError>
+    ensures reply { IfOk result (IsReplyTo (asked_replay words.now) found) }
+    ensures done { IfOk result (λ answer. answer.status ≢ 6) }
 {
-    let plan = plan_from(alloc, inputs, request, table, jobs)?;
-    answer_of(alloc, inputs, request, &plan)
-}
-
-/// The answer to `replay TABLE SCRIPT [--max N] [--anacrontab FILE] [--declarations FILE] [--judge]
-/// [--log] [--script]`.
-pub fn answer_replay<I: Inputs>(
-    alloc: Global,
-    request: &ReplayWords<'_>,
-    inputs: &mut I,
-) -> Result<Response, RanOut>
-    ensures value { IsFresh (I.whole inputs.old) (I.left inputs.old)
-        → IfOk result (AnswersReplay (asked_replay request.now) (I.whole inputs.old)
-        (I.failed inputs.old) (I.failed inputs.new)) }
-    ensures status { IfOk result (IsHonest (I.failed inputs.new) (I.reads inputs.new)) }
-    ensures warned { IsFresh (I.whole inputs.old) (I.left inputs.old)
-        → IfErr result (λ e. IsWarned (I.whole inputs.old) (asked_replay request.now).table
-        (asked_replay request.now).anacrontab (I.failed inputs.old)
-        (I.reads inputs.old) (I.reads inputs.new) e.warnings) }
-    ensures turn { AreReadInTurn (replay_paths (asked_replay request.now))
-        (I.reads inputs.old) (I.reads inputs.new) }
-{
-    let (table, jobs) = match read_tables(alloc, inputs, request.table, request.anacrontab) {
-        Ok(tables) => tables,
-        Err(fault) => return Ok(fault.response(alloc, b"".as_slice())?),
-    };
-    let warnings = warnings(alloc, &table, &jobs)?;
-    match tried(alloc, inputs, request, table, jobs) {
-        Ok(answer) => answer.behind(warnings),
-        Err(fault) => fault.response_behind(alloc, warnings),
+    let Replayable { plan, script } = found;
+    match reply(alloc, words, &plan, script) {
+        Ok(answer) => Ok(answer),
+        Err(fault) => fault.response(alloc, b"".as_slice()),
     }
 }

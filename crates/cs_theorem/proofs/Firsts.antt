@@ -1,6 +1,5 @@
 -- Lemmas on the first answer of a list.
-use Rattle.std.proofs.Common.{◌≡◌, ℕ, zero, suc, ◌+◌, ◌-◌, ◌<◌, ◌++◌, List, [], ◌∷◌, Option, Some, None, refl, sym, ap, ◌∙◌, arith, All, length, drop, get_or, drop-cons}
-use Rattle.std.proofs.lemmas.List.Elements.{All-head, All-tail}
+use Rattle.std.proofs.Common.{◌≡◌, ℕ, zero, suc, ◌+◌, ◌-◌, ◌<◌, ◌++◌, List, [], ◌∷◌, Option, Some, None, refl, sym, ap, ◌∙◌, arith}
 use Rattle.std.specs.List.{range_with_len}
 use Rattle.cs_windows.specs.Windows.{day_minutes}
 use Rattle.cs_history.specs.Lists.{below}
@@ -49,15 +48,6 @@ minute-found f n y lt h k = first_of-found f n 1440 y lt h k
 pub minutes-none : {B : Type 0} (f : ℕ → Option B) (n : ℕ) → n ≡ 1440 → first_of f (range_with_len 0 n) ≡ None → first_of f day_minutes ≡ None
 unfolding day_minutes
 minutes-none f n e h = ap (λ j. first_of f (range_with_len 0 j)) (sym e) ∙ h
-
--- none before, and one here
-pub found_at : {A B : Type 0} (f : A → Option B) (xs : List A) (i : ℕ) (d : A) (y : B) → i < length xs → first_of f (drop i xs) ≡ first_of f xs → f (get_or xs i d) ≡ Some y → first_of f xs ≡ Some y
-found_at f xs i d y lt h k =
-    sym h ∙ ap (first_of f) (drop-cons xs i d lt) ∙ ap (λ o. or_else o (first_of f (drop (suc i) xs))) k
-
-pub first_of-all : {A B : Type 0} (f : A → Option B) (xs : List A) → All (λ x. f x ≡ None) xs → first_of f xs ≡ None
-first_of-all f [] h = refl
-first_of-all f (x ∷ xs) h = ap (λ o. or_else o (first_of f xs)) (All-head (λ x. f x ≡ None) x xs h) ∙ first_of-all f xs (All-tail (λ x. f x ≡ None) x xs h)
 
 -- the same of the numbers below one
 pub below-found : {B : Type 0} (f : ℕ → Option B) (n m : ℕ) (y : B) → n < m → first_of f (range_with_len 0 n) ≡ None → f n ≡ Some y → first_of f (below m) ≡ Some y

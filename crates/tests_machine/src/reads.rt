@@ -4,9 +4,9 @@ ghost use Rattle.std.specs.Prelude.{reverse};
 ghost use Rattle.std.specs.Str.{bytes_eq};
 ghost use Rattle.tests_machine.specs.Shelf.{known_at};
 
-use cs_files::{Fault, Response, Status, all_bytes_at, read_tables};
-use cs_io::{CannotRead, Inputs, Reason};
-use std::alloc::Global;
+use cs_files::{Response, Status, find_plan};
+use cs_io::{CannotRead, Inputs, Printer, Reason};
+use std::io;
 use std::process::Abort;
 
 /// A file of known bytes, a path that can't be read, and empty files at all others. Each read is
@@ -80,21 +80,13 @@ impl<'a, R: Abort + AllocGlobal> Inputs for Shelf<'a, R> {
     }
 }
 
-/// Reads the files of a call, one after the other.
-fn read_all<I: Inputs>(alloc: Global, inputs: &mut I) -> Result<Vec<u8>, Fault<'static>> {
-    read_tables(alloc, inputs, "crontab", Some("anacrontab"))?;
-    all_bytes_at(alloc, inputs, "declarations")
-}
-
-/// What a call says that can't read a file; nothing if it reads all of them.
+/// What a call says that can't read a file; nothing if it reads all of them, one after the other.
 fn told<R: Abort + AllocGlobal>(rt: &R, shelf: &mut Shelf<'_, R>) -> Option<Response> {
-    match read_all(rt.alloc(), shelf) {
+    let (alloc, mut unheard) = (rt.alloc(), Printer::new(io::sink()));
+    let (table, jobs, path) = ("crontab", Some("anacrontab"), "declarations");
+    match find_plan(alloc, shelf, &mut unheard, table, jobs, path) {
         Ok(_) => None,
-        Err(fault) => Some(
-            fault
-                .response(rt.alloc(), b"".as_slice())
-                .expect(rt, "memory"),
-        ),
+        Err(fault) => Some(fault.response(alloc, b"".as_slice()).expect(rt, "memory")),
     }
 }
 

@@ -1,4 +1,4 @@
-use Rattle.std.proofs.Common.{ℕ, inl, subst, sym}
+use Rattle.std.proofs.Common.{◌∙◌, ℕ, inl, inr, refl, subst, sym}
 use Rattle.cs_files.specs.Ending.{sink}
 use Rattle.cronsafe.specs.Run.{CarriesOut}
 use Rattle.cronsafe.proofs.run.run_words.Goals as goal
@@ -6,6 +6,13 @@ use Rattle.cronsafe.proofs.run.run_words.Goals as goal
 pub returns-in-Ok-clause-value : goal.returns-in-Ok-clause-value
 returns-in-Ok-clause-value g c = λ fresh.
     let answer = c.in-Ok.answer in
-    let value = c.in-Ok.ensures.value fresh in
-    let carried = subst (λ (status : ℕ). CarriesOut answer (sink (g.O.Output.contents c.args.out.now) (g.O.Output.failed c.args.out.now)) (sink (g.O.Output.contents c.carry_out.new.out) (g.O.Output.failed c.carry_out.new.out)) (sink (g.E.Output.contents c.args.err.now) (g.E.Output.failed c.args.err.now)) (sink (g.E.Output.contents c.carry_out.new.err) (g.E.Output.failed c.carry_out.new.err)) status) (sym c.code.ensures) c.carry_out.ensures in
-    inl (answer, (value, c.in-Ok.ensures.status, carried))
+    let warned = sink (g.E.Output.contents c.respond.new.err) (g.E.Output.failed c.respond.new.err) in
+    let (w, told, (warns, value)) = c.in-Ok.ensures.value fresh in
+    let carried = subst (λ (status : ℕ). CarriesOut answer (sink (g.O.Output.contents c.args.out.now) (g.O.Output.failed c.args.out.now)) (sink (g.O.Output.contents c.carry_out.new.out) (g.O.Output.failed c.carry_out.new.out)) warned (sink (g.E.Output.contents c.carry_out.new.err) (g.E.Output.failed c.carry_out.new.err)) status) (sym c.code.ensures) c.carry_out.ensures in
+    (warned, (w, told, (warns, inl (answer, (value, c.in-Ok.ensures.status, carried)))))
+
+pub returns-in-Err-clause-value : goal.returns-in-Err-clause-value
+returns-in-Err-clause-value g c = λ fresh.
+    let warned = sink (g.E.Output.contents c.respond.new.err) (g.E.Output.failed c.respond.new.err) in
+    let (w, told, (warns, value)) = c.in-Err.ensures.value fresh in
+    (warned, (w, told, (warns, inr (c.code-in-Err.ensures ∙ c.run_out.ensures.status, refl, c.run_out.ensures.told))))

@@ -1,10 +1,7 @@
 use Rattle.std.proofs.Common.{◌≡◌, ◌+◌, ◌++◌, suc, List, [], ◌∷◌, append_assoc, arith}
 use Rattle.std.specs.Prelude.{map}
 use Rattle.std.proofs.lemmas.List.{map-append}
-use Rattle.cs_plan.specs.Plan.{crons}
-use Rattle.cs_chart.specs.Rows.{shown_of}
-use Rattle.std.proofs.lemmas.Grind.{common_steps}
-use Rattle.cs_chart.proofs.Rows.{rows_few}
+use Rattle.cs_chart.specs.Chart.{shown_of}
 use Rattle.cs_chart.proofs.row.plan_rows.Goals as goal
 
 rows_next : {X Y : Type 0} (f : X → Y) (old new : List X) (x : X) (a b : List Y) (y : Y) → new ≡ old ++ (x ∷ []) → map f old ≡ a ++ b → f x ≡ y
@@ -16,8 +13,3 @@ loop-place-2-preserved c =
     let e : c.loop-place-2.place + 1 ≡ suc c.loop-place-2.place = omega arith in
     rw (e, map-append) (rows_next shown_of c.loop-place-2.rows.items c.push-in-loop-place-2.new.self.items c.plan_row.result _ _ _
     c.in_ok-push-2.ensures.items c.loop-place-2.invariant (rw c.crons-crons.ensures.value at c.plan_row.ensures))
-
-pub returns-clause-few : goal.returns-clause-few
-returns-clause-few c =
-    let e = rows_few shown_of _ _ c.loop-place-2.rows.items (crons c.args.plan.now) c.loop-place-2.place c.loop-place-2.invariant in
-    grind (arith, common_steps, e)

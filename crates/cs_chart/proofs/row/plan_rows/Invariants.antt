@@ -2,8 +2,7 @@ use Rattle.std.proofs.Common.{◌≡◌, ◌+◌, ◌++◌}
 use Rattle.std.specs.Prelude.{map}
 use Rattle.cs_history.specs.Lists.{below}
 use Rattle.cs_plan.specs.Plan.{command_of, crons, job_at}
-use Rattle.cs_chart.specs.Chart.{terms_at, windows_of, windows_of_anacron}
-use Rattle.cs_chart.specs.Rows.{shown_of}
+use Rattle.cs_chart.specs.Chart.{shown_of, terms_at, windows_of, windows_of_anacron}
 use Rattle.cs_chart.proofs.row.plan_rows.Given as goal
 
 abbrev pub invariant-loop-place : goal.invariant-loop-place

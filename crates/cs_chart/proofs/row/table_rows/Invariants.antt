@@ -1,7 +1,6 @@
 use Rattle.std.proofs.Common.{◌≡◌, ◌++◌, take}
 use Rattle.std.specs.Prelude.{map}
-use Rattle.cs_chart.specs.Chart.{windows_of, windows_of_anacron}
-use Rattle.cs_chart.specs.Rows.{shown_of}
+use Rattle.cs_chart.specs.Chart.{shown_of, windows_of, windows_of_anacron}
 use Rattle.cs_chart.proofs.row.table_rows.Given as goal
 
 abbrev pub invariant-loop-line : goal.invariant-loop-line

@@ -4,7 +4,7 @@ use Rattle.std.specs.List.{slice_split}
 use Rattle.std.proofs.lemmas.Iterator.Consumers.{YieldsList-at, YieldsList-from_filter, count_from_yields_List}
 use Rattle.std.proofs.lemmas.Iterator.Splits.{YieldsList-from_slice_split}
 use Rattle.std.proofs.lemmas.List.Sums.{length-filter}
-use Rattle.cs_command.specs.RunParts.{is_among}
+use Rattle.cs_command.specs.Words.{is_among}
 use Rattle.cs_command.proofs.paths.parts_off.Goals as goal
 
 pub returns : goal.returns

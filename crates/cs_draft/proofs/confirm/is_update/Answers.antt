@@ -15,6 +15,6 @@ returns-clause-update c =
     let sound = c.are_sound.ensures in
     let is-sound = c.if-not-are_sound.false in
     let kept = rw c.entries-new.ensures.value at (c.in_ok-are_updates.ensures c.if-not-branch.false) in
-    let is : first_fault (join_faults c.args.table.now c.args.jobs.now d) ≡ None → IsUpdate c.args.table.now c.args.jobs.now c.args.places.now c.args.old.now c.args.max c.args.text.now =
+    let is : first_fault (join_faults c.args.table.now c.args.jobs.now d) ≡ None → IsUpdate c.args.table.now c.args.jobs.now c.args.places.now c.args.old.now c.args.max c.args.given.now c.args.text.now =
     λ fits. (d, record { declared = declared; once = rw c.entries-new.ensures.value at (sound.once is-sound); fits = fits; bound = rw (c.entries-new.ensures.value, c.lines.ensures.value) at (sound.bound is-sound); left_out = rw (c.entries-new.ensures.value, c.lines.ensures.value) at (sound.left_out is-sound) }, kept) in
     fitting c.is_fitting.result is c.is_fitting.ensures

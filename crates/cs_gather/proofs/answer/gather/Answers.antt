@@ -1,26 +1,58 @@
-use Rattle.std.proofs.Common.{◌≡◌, [], List, IfSome, Some, inr, option_map, subst}
-use Rattle.cs_gather.specs.Gathered.{GatheredCommand}
+use Rattle.std.proofs.Common.{◌≡◌, ◌++◌, ◌∙◌, [], List, IfSome, Some, inl, inr, map, option_map, subst}
+use Rattle.clap.specs.Words.{Text}
+use Rattle.cs_args.specs.Asked.{asked_gather}
+use Rattle.cs_io.specs.Files.{AreReadInTurn}
 use Rattle.cs_files.specs.Response.{Ending}
 use Rattle.cs_files.specs.Trouble.{IsHonest, ends, trouble}
+use Rattle.cs_files.specs.Turn.{gather_paths}
 use Rattle.cs_files.proofs.TroubleLemmas.{honest_fault}
-use Rattle.cs_gather.specs.Listing.{asked}
-use Rattle.cs_gather.specs.Answer.{FirstStops, GathersAll}
-use Rattle.cs_gather.proofs.AnswerLemmas.{ends_for, if_ok}
+use Rattle.cs_files.proofs.TurnLemmas.{none_read}
+use Rattle.cs_gather.specs.Tables.{AreNamed, Given}
+use Rattle.cs_gather.specs.Answer.{AllAdded, FirstStops, GathersAll, ShowsGathered}
+use Rattle.cs_gather.specs.declared.line.Gathered.{Gathered}
+use Rattle.cs_gather.proofs.AnswerLemmas.{all_paths, ends_for, if_ok}
 use Rattle.cs_gather.proofs.answer.gather.Goals as goal
+
+pub returns-in_err-push_named-clause-turn : goal.returns-in_err-push_named-clause-turn
+returns-in_err-push_named-clause-turn g c = none_read (map (λ given. given.path) c.args.found.items ++ gather_paths (asked_gather c.args.request.now)) (g.I.Inputs.reads c.args.inputs.now)
+
+pub returns-in_err-gathering-clause-turn : goal.returns-in_err-gathering-clause-turn
+returns-in_err-gathering-clause-turn g c = none_read (map (λ given. given.path) c.args.found.items ++ gather_paths (asked_gather c.args.request.now)) (g.I.Inputs.reads c.args.inputs.now)
+
+pub returns-in-Ok-clause-value : goal.returns-in-Ok-clause-value
+returns-in-Ok-clause-value g c = λ fresh.
+    let files = g.I.Inputs.whole c.args.inputs.now in
+    let failed = g.I.Inputs.failed c.add_tables.new.inputs in
+    let (named, is, are) = c.in_ok-push_named.ensures in
+    let commands = c.add_tables.new.gathering.commands.items in
+    let some = subst (λ (old : List Gathered). AllAdded files c.as_slice-all.result.now old commands) c.in_ok-gathering.ensures (c.in-Ok.ensures.adds fresh) in
+    let added = subst (λ (ts : List Given). AllAdded files ts [] commands) (c.as_slice-all.ensures.value ∙ is) some in
+    if_ok (ShowsGathered commands) (λ (r : Ending). (n : List Given) × AreNamed (asked_gather c.args.request.now) n × GathersAll files failed (c.args.found.items ++ n) r) c.show.result (λ r shown. (named, are, inl (commands, added, shown))) c.show.ensures
+
+pub returns-in-Ok-clause-turn : goal.returns-in-Ok-clause-turn
+returns-in-Ok-clause-turn g c =
+    let (named, is, are) = c.in_ok-push_named.ensures in
+    let paths = all_paths (asked_gather c.args.request.now) c.args.found.items named c.as_slice-all.result.now (c.as_slice-all.ensures.value ∙ is) are in
+    subst (λ (ps : List Text). AreReadInTurn ps (g.I.Inputs.reads c.args.inputs.now) (g.I.Inputs.reads c.add_tables.new.inputs)) paths c.add_tables.ensures.turn
+
+pub returns-in-Err-clause-turn : goal.returns-in-Err-clause-turn
+returns-in-Err-clause-turn g c =
+    let (named, is, are) = c.in_ok-push_named.ensures in
+    let paths = all_paths (asked_gather c.args.request.now) c.args.found.items named c.as_slice-all.result.now (c.as_slice-all.ensures.value ∙ is) are in
+    subst (λ (ps : List Text). AreReadInTurn ps (g.I.Inputs.reads c.args.inputs.now) (g.I.Inputs.reads c.add_tables.new.inputs)) paths c.add_tables.ensures.turn
 
 pub returns-in-Err-clause-value : goal.returns-in-Err-clause-value
 returns-in-Err-clause-value g c = λ fresh.
-    let tree = g.I.Folders.tree in
-    let front = asked c.args.front in
     let files = g.I.Inputs.whole c.args.inputs.now in
-    let before = g.I.Inputs.failed c.args.inputs.now in
-    let after = g.I.Inputs.failed c.add_tables.new.inputs in
-    let tables = c.args.tables.now in
+    let failed = g.I.Inputs.failed c.add_tables.new.inputs in
+    let (named, is, are) = c.in_ok-push_named.ensures in
+    let tables = c.args.found.items ++ named in
     let fault = c.in-Err.fault in
     let notes = c.as_slice.result.now in
     let told = λ (r : Ending). option_map (ends notes) (trouble fault) ≡ Some r in
-    let first = subst (λ (old : List GatheredCommand). IfSome (trouble fault) (FirstStops tree front files before after tables old)) c.new-gathering.ensures (c.in-Err.ensures.stops fresh) in
-    if_ok told (GathersAll tree front files before after tables) c.response.result (λ r is. inr (ends_for (FirstStops tree front files before after tables []) notes (trouble fault) r first is)) c.response.ensures
+    let some = subst (λ (old : List Gathered). IfSome (trouble fault) (FirstStops files failed c.as_slice-all.result.now old)) c.in_ok-gathering.ensures (c.in-Err.ensures.stops fresh) in
+    let first = subst (λ (ts : List Given). IfSome (trouble fault) (FirstStops files failed ts [])) (c.as_slice-all.ensures.value ∙ is) some in
+    if_ok told (λ (r : Ending). (n : List Given) × AreNamed (asked_gather c.args.request.now) n × GathersAll files failed (c.args.found.items ++ n) r) c.response.result (λ r tells. (named, are, inr (ends_for (FirstStops files failed tables []) notes (trouble fault) r first tells))) c.response.ensures
 
 pub returns-in-Err-clause-status : goal.returns-in-Err-clause-status
 returns-in-Err-clause-status g c =

@@ -1,15 +1,7 @@
 use Rattle.std.proofs.Common.{ℕ, List, Bor, map}
-use Rattle.cs_learn.specs.Jobs.{job_on}
-use Rattle.cs_learn.specs.Learning.{nothing}
 use Rattle.cs_files.proofs.TurnLemmas.{none_read}
 use Rattle.cs_learn.proofs.AnswerLemmas.{log_honest, log_unread}
 use Rattle.cs_learn.proofs.answer.logs_at.Goals as goal
-
-pub returns-in-Ok-clause-step : goal.returns-in-Ok-clause-step
-returns-in-Ok-clause-step g c = λ fresh.
-    let jobs = map (job_on c.args.places.now) c.args.lines.now in
-    let (next, are, reading) = c.in-Ok.ensures.told fresh jobs nothing (c.new-log.ensures jobs c.in_ok-jobs.ensures) in
-    (next, (c.in-Ok.ensures.works, are), reading)
 
 pub returns-clause-step : goal.returns-clause-step
 returns-clause-step g c = λ fresh.

@@ -2,7 +2,6 @@ use Rattle.std.proofs.Common.{rules, ◌≡◌, ◌≢◌, ◌≤◌, ◌<◌, �
 use Rattle.cs_io.specs.Files.{IsFresh, IsNextOf}
 use Rattle.cs_io.specs.declared.inputs.TheConstants.{MOST_READS}
 use Rattle.cs_io.proofs.ReadLemmas.{goes_on, is_long, not_read, one_more, read_again, read_alone, still_fresh}
-use Rattle.cs_learn.proofs.LogLemmas.{all_read, more_bytes, no_bytes, whole_log}
 use Rattle.cs_learn.proofs.reading.read_log.Goals as goal
 
 at_start : (o : Option (List ℕ)) → IfSome o (λ xs. (ys : List ℕ) × (xs ≡ [] ++ ys) × (o ≡ Some ys))
@@ -20,7 +19,6 @@ loop-reads-init g c =
       whole = refl;
       alone = not_read c.args.path.now (g.I.Inputs.reads c.args.inputs.now);
       others = λ q other. refl;
-      told = no_bytes c.args.log.now;
     }
 
 pub loop-reads-preserved : goal.loop-reads-preserved
@@ -37,7 +35,6 @@ loop-reads-preserved g c =
       whole = c.read.ensures.whole ∙ c.loop-reads.invariant.whole;
       alone = read_again c.args.path.now c.loop-reads._reads _ _ _ c.loop-reads.invariant.alone c.read.ensures.noted;
       others = λ q other. c.in_ok-n.ensures.bytes.others q other ∙ c.loop-reads.invariant.others q other;
-      told = more_bytes c.args.log.now c.loop-reads.log c.bytes.new.self done (take c.in_ok-n.n c.read.new.buf) c.loop-reads.invariant.told (search rules);
     }
 
 pub returns-in-0-clause-fresh : goal.returns-in-0-clause-fresh
@@ -50,17 +47,6 @@ returns-in-0-clause-fresh g c = λ fresh.
     = still_fresh (g.I.Inputs.whole c.args.inputs.now) (g.I.Inputs.left c.args.inputs.now) (g.I.Inputs.left c.loop-reads.inputs) (g.I.Inputs.left c.read.new.self) c.args.path.now c.read.new.buf c.loop-reads.invariant.done
     c.loop-reads.invariant.others c.loop-reads.invariant.parts next room fresh in
     subst (λ w. IsFresh w (g.I.Inputs.left c.read.new.self)) (sym (c.read.ensures.whole ∙ c.loop-reads.invariant.whole)) done
-
-pub returns-in-0-clause-told : goal.returns-in-0-clause-told
-returns-in-0-clause-told g c =
-    let room : 0 < length c.read.new.buf = search rules in
-    let end : IsNextOf c.args.path.now (g.I.Inputs.whole c.loop-reads.inputs) (g.I.Inputs.left c.loop-reads.inputs) (g.I.Inputs.left c.read.new.self) 0 c.read.new.buf
-    = subst (λ n. IsNextOf c.args.path.now (g.I.Inputs.whole c.loop-reads.inputs) (g.I.Inputs.left c.loop-reads.inputs) (g.I.Inputs.left c.read.new.self) n c.read.new.buf) c.in-0.is c.in_ok-n.ensures.bytes in
-    let done = c.loop-reads.invariant.done in (
-      done,
-      all_read (g.I.Inputs.left c.read.new.self c.args.path.now ≡ g.I.Inputs.whole c.loop-reads.inputs c.args.path.now) (g.I.Inputs.left c.args.inputs.now c.args.path.now) (g.I.Inputs.left c.loop-reads.inputs c.args.path.now) done c.loop-reads.invariant.parts (end.end refl room),
-      whole_log c.args.log.now c.loop-reads.log c.end.new.self done c.loop-reads.invariant.told c.in_ok-end-in-0.ensures,
-    )
 
 pub returns-clause-fails : goal.returns-clause-fails
 returns-clause-fails g c = λ e.

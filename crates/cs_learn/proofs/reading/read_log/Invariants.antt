@@ -1,11 +1,8 @@
 use Rattle.std.proofs.Common.{◌≡◌, ◌≢◌, ◌≤◌, ℕ, List, Some, IfSome, length, ◌++◌}
 use Rattle.cs_io.specs.Files.{IsReadOn}
-use Rattle.cs_learn.specs.Log.{IsReading, Reading as TheReading, behind_bytes}
-use Rattle.cs_learn.specs.declared.job.Job.{Job}
 use Rattle.cs_learn.proofs.reading.read_log.Given as goal
 
--- each read gave a byte; what was read and what is left are the whole; other paths are as they were;
--- and the log was read as far
+-- each read gave a byte; what was read and what is left are the whole; other paths are as they were
 pub record Reading (g : goal.Over) (l : goal.Live-loop-reads g) : Type 0 where
   pub done : List ℕ
   pub room : length l.buf ≡ 4096
@@ -15,7 +12,6 @@ pub record Reading (g : goal.Over) (l : goal.Live-loop-reads g) : Type 0 where
   pub whole : g.I.Inputs.whole l.inputs ≡ g.I.Inputs.whole l.initial.inputs
   pub alone : IsReadOn l.path l._reads (g.I.Inputs.reads l.initial.inputs) (g.I.Inputs.reads l.inputs)
   pub others : (q : List ℕ) → q ≢ l.path → g.I.Inputs.left l.inputs q ≡ g.I.Inputs.left l.initial.inputs q
-  pub told : (jobs : List Job) (reading : TheReading) → IsReading jobs reading l.initial.log → IsReading jobs (behind_bytes reading done) l.log
 
 abbrev pub invariant-loop-reads : goal.invariant-loop-reads
 invariant-loop-reads g l = Reading g l

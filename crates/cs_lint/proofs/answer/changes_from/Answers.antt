@@ -14,12 +14,12 @@ returns-in_err-zone-clause-none g c = λ fresh.
 
 pub returns-clause-told : goal.returns-clause-told
 returns-clause-told g c =
-    IfErr-weaker c.changes_in.result _ _ (λ e is. none_is_told c.args.path.now c.as_slice.result.now (g.I.Inputs.failed c.args.inputs.now) (g.I.Inputs.failed c.bytes_at.new.inputs) e c.in_ok-zone.ensures.works is) c.changes_in.ensures
+    IfErr-weaker c.changes_in.result _ _ (λ e is. none_is_told c.args.path.now c.as_slice.result.now (g.I.Inputs.failed c.args.inputs.now) (g.I.Inputs.failed c.bytes_at.new.inputs) e c.in_ok-zone.ensures.works is) c.changes_in.ensures.fault
 
 pub returns-clause-none : goal.returns-clause-none
 returns-clause-none g c = λ fresh.
-    IfErr-weaker c.changes_in.result _ _ (λ e is. none_is_true (g.I.Inputs.whole c.args.inputs.now) (g.I.Inputs.left c.args.inputs.now) c.args.path.now c.in_ok-zone.zone.items e fresh c.in_ok-zone.ensures.bytes (rw c.as_slice.ensures.value at is)) c.changes_in.ensures
+    IfErr-weaker c.changes_in.result _ _ (λ e is. none_is_true (g.I.Inputs.whole c.args.inputs.now) (g.I.Inputs.left c.args.inputs.now) c.args.path.now c.in_ok-zone.zone.items e fresh c.in_ok-zone.ensures.bytes (rw c.as_slice.ensures.value at is)) c.changes_in.ensures.fault
 
 pub returns-clause-status : goal.returns-clause-status
 returns-clause-status g c =
-    IfErr-weaker c.changes_in.result _ _ (λ e is. zone_is_honest (g.I.Inputs.failed c.bytes_at.new.inputs) (g.I.Inputs.reads c.bytes_at.new.inputs) c.args.path.now c.as_slice.result.now e is) c.changes_in.ensures
+    IfErr-weaker c.changes_in.result _ _ (λ e is. zone_is_honest (g.I.Inputs.failed c.bytes_at.new.inputs) (g.I.Inputs.reads c.bytes_at.new.inputs) c.args.path.now c.as_slice.result.now e is) c.changes_in.ensures.fault

@@ -1,17 +1,14 @@
-use Rattle.std.proofs.Common.{◌∙◌, ap, refl}
-use Rattle.cs_files.specs.Response.{Ending}
-use Rattle.cs_lint.proofs.AnswerLemmas.{none_found, none_odd}
+use Rattle.std.proofs.Common.{◌∙◌, ap, sym}
+use Rattle.cs_files.specs.Response.{Ending, status_of}
+use Rattle.cs_lint.proofs.AnswerLemmas.{judges_so}
 use Rattle.cs_lint.proofs.answer.show.Goals as goal
 
 pub returns-clause-value : goal.returns-clause-value
-returns-clause-value c =
-    (ap (λ (e : Ending). e.err) c.told.ensures ∙ c.new.ensures, (c.in_ok-report.report.verdict, ap (λ (e : Ending). e.status) c.told.ensures ∙ c.status_for-status.ensures, c.in_ok-report.ensures.value))
+returns-clause-value c = (
+  ap (λ (e : Ending). e.err) c.told.ensures ∙ c.new.ensures,
+  judges_so (status_of c.status_for-status.result) c.told.result.status _ _ _ _ _ _ (ap (λ (e : Ending). e.status) c.told.ensures)
+      c.as_slice-table.ensures.value c.some_bytes-jobs.ensures c.some_bytes-declarations.ensures (c.status_for-status.ensures.value _ _ _ c.in_ok-looked.ensures),
+)
 
 pub returns-clause-faults : goal.returns-clause-faults
-returns-clause-faults c = λ only.
-    none_odd c.in_ok-report.report.verdict c.in_ok-report.report.verdict _ refl (c.in_ok-report.ensures.faults only)
-    (ap (λ (e : Ending). e.status) c.told.ensures ∙ c.status_for-status.ensures)
-
-pub returns-clause-clean : goal.returns-clause-clean
-returns-clause-clean c = λ zero.
-    c.in_ok-report.ensures.clean (none_found c.in_ok-report.report.verdict _ (ap (λ (e : Ending). e.status) c.told.ensures ∙ c.status_for-status.ensures) zero)
+returns-clause-faults c = λ only one. c.status_for-status.ensures.only only (sym (ap (λ (e : Ending). e.status) c.told.ensures) ∙ one)

@@ -1,7 +1,6 @@
 use Rattle.std.proofs.Common.{◌≡◌, rules}
 use Rattle.std.proofs.lemmas.Fn.{always_returns_same}
-use Rattle.cs_retrace.specs.Trace.{place_of}
-use Rattle.cs_retrace.specs.Script.{IsInOrder}
+use Rattle.cs_retrace.specs.Order.{IsInOrder, place_of}
 use Rattle.cs_retrace.proofs.retracing.in_order.Goals as goal
 
 pub returns : goal.returns

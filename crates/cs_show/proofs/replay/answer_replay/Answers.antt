@@ -1,93 +1,17 @@
-use Rattle.std.proofs.Common.{◌≡◌, ◌++◌, [], ◌∷◌, Ok, Err, Some, option_map, subst}
-use Rattle.std.proofs.lemmas.Result.{IfErr-weaker, IfOk-weaker}
+use Rattle.std.proofs.lemmas.Result.{IfOk-weaker}
 use Rattle.cs_args.specs.Asked.{asked_replay}
-use Rattle.cs_show.specs.Replayed.{Replays}
-use Rattle.cs_files.specs.Reads.{ReadsTables}
-use Rattle.cs_files.specs.Trouble.{CameTo, ends, trouble}
-use Rattle.cs_files.proofs.TroubleLemmas.{answered, answered_fault, answered_stop, honest_answer, honest_fault, moved}
-use Rattle.cs_io.specs.Files.{Failed}
-use Rattle.cs_files.specs.Turn.{some_path, table_paths}
-use Rattle.cs_files.proofs.WarnedLemmas.{behind_warned}
-use Rattle.cs_files.proofs.TurnLemmas.{some_read, then_read}
+use Rattle.cs_files.proofs.AskedLemmas.{content_done, fault_answered}
+use Rattle.cs_show.specs.Replayed.{IsReplyTo}
+use Rattle.cs_show.proofs.ReplayLemmas.{fault_to, reply_to}
 use Rattle.cs_show.proofs.replay.answer_replay.Goals as goal
 
-pub returns-in-Ok-tried-clause-value : goal.returns-in-Ok-tried-clause-value
-returns-in-Ok-tried-clause-value g c = λ fresh.
-    let files = g.I.Inputs.whole c.args.inputs.now in
-    let before = g.I.Inputs.failed c.args.inputs.now in
-    let after = g.I.Inputs.failed c.tried.new.inputs in
-    let a = asked_replay c.args.request.now in
-    let both = c.in-Ok.tables in
-    let one = subst (λ (f : Failed). ReadsTables files a.table a.anacrontab before f (Ok both)) c.in-Ok.ensures.works (c.in-Ok.ensures.step fresh) in
-    let other = moved (λ w f. Replays w a both f after (Ok c.in-Ok-tried.answer)) (g.I.Inputs.whole c.read_tables.new.inputs) files (g.I.Inputs.failed c.read_tables.new.inputs) before c.read_tables.ensures.whole c.in-Ok.ensures.works (c.in-Ok-tried.ensures.step (c.in-Ok.ensures.fresh fresh)) in
-    IfOk-weaker c.behind.result _ _ (λ r is. answered (ReadsTables files a.table a.anacrontab) (λ b. Replays files a b) before after both c.in_ok-warnings.warnings c.in-Ok-tried.answer r one c.in_ok-warnings.ensures other is) c.behind.ensures.told
+pub returns-in-Ok-clause-reply : goal.returns-in-Ok-clause-reply
+returns-in-Ok-clause-reply c = reply_to (asked_replay c.args.words.now) c.args.found c.in-Ok.answer c.in-Ok.ensures.value
 
-pub returns-in-Err-tried-clause-value : goal.returns-in-Err-tried-clause-value
-returns-in-Err-tried-clause-value g c = λ fresh.
-    let files = g.I.Inputs.whole c.args.inputs.now in
-    let before = g.I.Inputs.failed c.args.inputs.now in
-    let after = g.I.Inputs.failed c.tried.new.inputs in
-    let a = asked_replay c.args.request.now in
-    let both = c.in-Ok.tables in
-    let fault = c.in-Err-tried.fault in
-    let one = subst (λ (f : Failed). ReadsTables files a.table a.anacrontab before f (Ok both)) c.in-Ok.ensures.works (c.in-Ok.ensures.step fresh) in
-    let other = moved (λ w f. CameTo (Replays w a both f after) (Err fault)) (g.I.Inputs.whole c.read_tables.new.inputs) files (g.I.Inputs.failed c.read_tables.new.inputs) before c.read_tables.ensures.whole c.in-Ok.ensures.works (c.in-Err-tried.ensures.step (c.in-Ok.ensures.fresh fresh)) in
-    IfOk-weaker c.response_behind.result _ _ (λ r is. answered_fault (ReadsTables files a.table a.anacrontab) (λ b. Replays files a b) before after both c.in_ok-warnings.warnings fault r one c.in_ok-warnings.ensures other is) c.response_behind.ensures.told
+pub returns-clause-reply : goal.returns-clause-reply
+returns-clause-reply c =
+    let a = asked_replay c.args.words.now in
+    IfOk-weaker c.response.result _ (IsReplyTo a c.args.found) (λ r told. fault_answered (IsReplyTo a c.args.found) c.as_slice.result.now c.in-Err.fault r c.as_slice.ensures (fault_to a c.args.found c.in-Err.fault c.in-Err.ensures.value) told) c.response.ensures
 
-pub returns-in_err-response-in-Err-clause-turn : goal.returns-in_err-response-in-Err-clause-turn
-returns-in_err-response-in-Err-clause-turn g c =
-    let a = asked_replay c.args.request.now in
-    some_read (table_paths a.table a.anacrontab) (some_path a.declarations ++ (a.script ∷ [])) (g.I.Inputs.reads c.args.inputs.now) (g.I.Inputs.reads c.read_tables.new.inputs) c.read_tables.ensures.turn
-
-pub returns-in-Err-clause-turn : goal.returns-in-Err-clause-turn
-returns-in-Err-clause-turn g c =
-    let a = asked_replay c.args.request.now in
-    some_read (table_paths a.table a.anacrontab) (some_path a.declarations ++ (a.script ∷ [])) (g.I.Inputs.reads c.args.inputs.now) (g.I.Inputs.reads c.read_tables.new.inputs) c.read_tables.ensures.turn
-
-pub returns-in_err-warnings-clause-turn : goal.returns-in_err-warnings-clause-turn
-returns-in_err-warnings-clause-turn g c =
-    let a = asked_replay c.args.request.now in
-    some_read (table_paths a.table a.anacrontab) (some_path a.declarations ++ (a.script ∷ [])) (g.I.Inputs.reads c.args.inputs.now) (g.I.Inputs.reads c.read_tables.new.inputs) c.read_tables.ensures.turn
-
-pub returns-in-Ok-tried-clause-turn : goal.returns-in-Ok-tried-clause-turn
-returns-in-Ok-tried-clause-turn g c =
-    let a = asked_replay c.args.request.now in
-    then_read (table_paths a.table a.anacrontab) (some_path a.declarations ++ (a.script ∷ [])) (g.I.Inputs.reads c.args.inputs.now) (g.I.Inputs.reads c.read_tables.new.inputs) (g.I.Inputs.reads c.tried.new.inputs) c.read_tables.ensures.turn (c.tried.ensures.turn)
-
-pub returns-in-Err-tried-clause-turn : goal.returns-in-Err-tried-clause-turn
-returns-in-Err-tried-clause-turn g c =
-    let a = asked_replay c.args.request.now in
-    then_read (table_paths a.table a.anacrontab) (some_path a.declarations ++ (a.script ∷ [])) (g.I.Inputs.reads c.args.inputs.now) (g.I.Inputs.reads c.read_tables.new.inputs) (g.I.Inputs.reads c.tried.new.inputs) c.read_tables.ensures.turn (c.tried.ensures.turn)
-
-pub returns-in-Ok-tried-clause-warned : goal.returns-in-Ok-tried-clause-warned
-returns-in-Ok-tried-clause-warned g c = λ fresh.
-    let a = asked_replay c.args.request.now in
-    IfErr-weaker c.behind.result _ _ (λ e is. behind_warned (g.I.Inputs.whole c.args.inputs.now) a.table a.anacrontab (g.I.Inputs.failed c.args.inputs.now) (g.I.Inputs.failed c.read_tables.new.inputs)
-    (g.I.Inputs.reads c.args.inputs.now) (g.I.Inputs.reads c.tried.new.inputs) c.in-Ok.tables c.in_ok-warnings.warnings e.warnings is (c.in-Ok.ensures.step fresh) c.in-Ok.ensures.works c.in_ok-warnings.ensures) c.behind.ensures.warned
-
-pub returns-in-Err-tried-clause-warned : goal.returns-in-Err-tried-clause-warned
-returns-in-Err-tried-clause-warned g c = λ fresh.
-    let a = asked_replay c.args.request.now in
-    IfErr-weaker c.response_behind.result _ _ (λ e is. behind_warned (g.I.Inputs.whole c.args.inputs.now) a.table a.anacrontab (g.I.Inputs.failed c.args.inputs.now) (g.I.Inputs.failed c.read_tables.new.inputs)
-    (g.I.Inputs.reads c.args.inputs.now) (g.I.Inputs.reads c.tried.new.inputs) c.in-Ok.tables c.in_ok-warnings.warnings e.warnings is (c.in-Ok.ensures.step fresh) c.in-Ok.ensures.works c.in_ok-warnings.ensures) c.response_behind.ensures.warned
-
-pub returns-in-Ok-tried-clause-status : goal.returns-in-Ok-tried-clause-status
-returns-in-Ok-tried-clause-status g c = IfOk-weaker c.behind.result _ _ (λ r is. honest_answer (g.I.Inputs.failed c.tried.new.inputs) (g.I.Inputs.reads c.tried.new.inputs) c.in-Ok-tried.answer r (c.in_ok-warnings.warnings ++ c.in-Ok-tried.answer.err) c.in-Ok-tried.ensures.done is) c.behind.ensures.told
-
-pub returns-in-Err-tried-clause-status : goal.returns-in-Err-tried-clause-status
-returns-in-Err-tried-clause-status g c = IfOk-weaker c.response_behind.result _ _ (λ r is. honest_fault (g.I.Inputs.failed c.tried.new.inputs) (g.I.Inputs.reads c.tried.new.inputs) c.in_ok-warnings.warnings c.in-Err-tried.fault r c.in-Err-tried.ensures.status is) c.response_behind.ensures.told
-
-pub returns-in-Err-clause-value : goal.returns-in-Err-clause-value
-returns-in-Err-clause-value g c = λ fresh.
-    let files = g.I.Inputs.whole c.args.inputs.now in
-    let before = g.I.Inputs.failed c.args.inputs.now in
-    let after = g.I.Inputs.failed c.read_tables.new.inputs in
-    let a = asked_replay c.args.request.now in
-    let fault = c.in-Err.fault in
-    let r = c.in_ok-response-in-Err.field-0 in
-    answered_stop (ReadsTables files a.table a.anacrontab) (λ b. Replays files a b) before after fault r (c.in-Err.ensures.step fresh)
-    (subst (λ v. option_map (ends v) (trouble fault) ≡ Some r) c.as_slice.ensures c.in_ok-response-in-Err.ensures)
-
-pub returns-in-Err-clause-status : goal.returns-in-Err-clause-status
-returns-in-Err-clause-status g c =
-    honest_fault (g.I.Inputs.failed c.read_tables.new.inputs) (g.I.Inputs.reads c.read_tables.new.inputs) c.as_slice.result.now c.in-Err.fault c.in_ok-response-in-Err.field-0 c.in-Err.ensures.status c.in_ok-response-in-Err.ensures
+pub returns-clause-done : goal.returns-clause-done
+returns-clause-done c = IfOk-weaker c.response.result _ _ (λ r told. content_done c.as_slice.result.now c.in-Err.fault r c.in-Err.ensures.status told) c.response.ensures

@@ -4,9 +4,9 @@
   tests/model/compare_cases.py [NAME..]   all cases, those of a subcommand, or those named
 
 Read are the cases of `day`, `check`, `judge`, `make`, `advise`, `room`, `replay` and `draft`, but
-for those of help, of words that are no call, and of logs. Where the wanted answer is one of what is
-read, the reading has to answer the same: status and both outputs. Where it comes later, all has to
-read well, with the wanted warnings and notes.
+for those of help, of words that are no call, of logs and of the longest times that they give. Where
+the wanted answer is one of what is read, the reading has to answer the same: status and both
+outputs. Where it comes later, all has to read well, with the wanted warnings and notes.
 
 Judged are certificates; the reading of `check` has to give the whole answer, its verdict too:
   of `check`   all cases but those that want help or say that the words are no call
@@ -29,6 +29,8 @@ from model.call import CALLS, Answer, agrees, answer_of, as_read, asks_help  # n
 from model.call import words_of_check  # noqa: E402
 
 SAFE = b"safe\n"
+# Options with files that aren't read here.
+UNREAD = {b"--log", b"--max-from"}
 # What standard error says first; what it says after the warnings where the text of a certificate
 # holds a fault.
 WARNING, NOTE = b"warning: ", b"note: "
@@ -83,7 +85,7 @@ def look_at_verdict(case):
 def main():
     cases = cases_of(words_of(__doc__).names)
     read = [it for it in cases if it.name.split("/")[0].encode() in CALLS and it.status != 4]
-    read = [it for it in read if not asks_help(it.words) and b"--log" not in it.words]
+    read = [it for it in read if not asks_help(it.words) and UNREAD.isdisjoint(it.words)]
     tests = [(f"reading of {it.name}", partial(look_at_reading, it)) for it in read]
     judged = filter(is_judged, cases)
     tests += [(f"verdict of {it.name}", partial(look_at_verdict, it)) for it in judged]

@@ -25,31 +25,22 @@ pub(crate) fn read_clock<R: Clock>(rt: &R) -> Option<Timestamp> {
 }
 
 /// The minutes by which local time is ahead of UTC at an instant: by `TZ`, which the C library reads
-/// so too (`tzset(3)`), or else by `/etc/localtime`, or else 0. None where `TZ` is set and names no
-/// time zone. The only error is out of memory.
+/// so too (`tzset(3)`), or else by `/etc/localtime`, or else 0. `TZ` names a file of the machine, or
+/// else is a POSIX rule, with or without a colon in front; an empty name is UTC too. None where it's
+/// set and names no time zone. The only error is out of memory.
 pub(crate) fn local_offset<R: Env + Files + AllocGlobal>(
     rt: &R,
     at: Timestamp,
 ) -> Result<Option<i16>, AllocError> {
-    match env::var(rt, "TZ") {
-        Ok(value) => named_offset(rt, value.as_str(), at),
-        Err(env::VarError::NotPresent) => match file_offset(rt, "/etc/localtime", at)? {
-            Some(offset) => Ok(Some(offset)),
-            None => Ok(Some(0)),
-        },
-        Err(env::VarError::NotUnicode) => Ok(None),
-        Err(env::VarError::OutOfMemory) => Err(AllocError),
-    }
-}
-
-/// The offset of the time zone that a value of `TZ` names, with or without a colon in front: of a
-/// file of the machine, or else of a POSIX rule. An empty name is UTC too.
-fn named_offset<R: Env + Files + AllocGlobal>(
-    rt: &R,
-    value: &str,
-    at: Timestamp,
-) -> Result<Option<i16>, AllocError> {
-    let name = value.strip_prefix(':').unwrap_or(value);
+    let value = match env::var(rt, "TZ") {
+        Ok(value) => value,
+        Err(env::VarError::NotPresent) => {
+            return Ok(Some(file_offset(rt, "/etc/localtime", at)?.unwrap_or(0)));
+        }
+        Err(env::VarError::NotUnicode) => return Ok(None),
+        Err(env::VarError::OutOfMemory) => return Err(AllocError),
+    };
+    let name = value.as_str().strip_prefix(':').unwrap_or(value.as_str());
     if name.is_empty() || name == "UTC" {
         return Ok(Some(0));
     }

@@ -1,5 +1,5 @@
 //! The answer to the words of a call.
-ghost use Rattle.std.specs.Prelude.{◌≡◌, ◌≢◌, ◌⊎◌, [], IfErr, IfOk, map};
+ghost use Rattle.std.specs.Prelude.{◌≡◌, ◌≢◌, ◌⊎◌, IfErr, IfOk, map};
 ghost use Rattle.cs_io.specs.Files.{IsFresh};
 ghost use Rattle.cs_args.specs.Asked.{asking};
 ghost use Rattle.cs_files.specs.Asked.{Tells};
@@ -102,14 +102,6 @@ fn find_task<'a, I: Folders, E: Output>(
     }
 }
 
-/// What is answered to a subcommand of the other program.
-fn elsewhere(alloc: Global) -> Result<Response, AllocError>
-    ensures { IfOk result (λ r. (r.status ≡ 4) × (r.out ≡ [])) }
-{
-    let text = b"cronsafe-aids: the program cronsafe answers this subcommand\n".as_slice();
-    Ok(Response::no_call(alloc, Vec::from_slice(alloc, text)?))
-}
-
 /// Answers what a call asks of what its files hold. The only error is want of memory.
 fn answer<R: Threads + Sync>(
     rt: &R,
@@ -127,7 +119,10 @@ fn answer<R: Threads + Sync>(
         Task::Chart(words, question, found) => answer_chart(alloc, &words, question, &found),
         Task::Explain(name) => answer_explain(alloc, name),
         Task::Ready(response) => Ok(response),
-        Task::Other => elsewhere(alloc),
+        Task::Other => {
+            let text = b"cronsafe-aids: the program cronsafe answers this subcommand\n".as_slice();
+            Ok(Response::no_call(alloc, Vec::from_slice(alloc, text)?))
+        }
     }
 }
 

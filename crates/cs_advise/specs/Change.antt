@@ -1,5 +1,5 @@
 -- Changes of a table or of declarations.
-use Rattle.std.specs.Prelude.{◌≡◌, ◌≢◌, ◌==◌, ◌+◌, ◌<◌, ℕ, List, Ok, length}
+use Rattle.std.specs.Prelude.{◌≡◌, ◌≢◌, ◌==◌, ◌+◌, ◌<◌, ℕ, Bool, List, Ok, false, length, true}
 use Rattle.std.specs.Prelude.{if◌then◌else◌, slice_index_or}
 use Rattle.cs_anacrontab.specs.Anacrontab.{Table as JobTable}
 use Rattle.cs_crontab.specs.Crontab.{CommandLine, Table}
@@ -16,7 +16,6 @@ use Rattle.cs_advise.specs.declared.change.Change.TheVariants.{Both, Member as O
 use Rattle.cs_advise.specs.declared.change.Change.TheVariants.{Start as Alone}
 use Rattle.cs_advise.specs.declared.change.Member.{Member}
 use Rattle.cs_advise.specs.declared.change.Shift.{Shift}
-use Rattle.cs_advise.specs.declared.change.Shift.TheVariants.{Earlier, Later}
 use Rattle.cs_advise.specs.declared.source.Source.{Source}
 
 -- so many minutes after each minute the other is due exactly where the one is due at the minute:
@@ -24,17 +23,23 @@ use Rattle.cs_advise.specs.declared.source.Source.{Source}
 abbrev pub IsLater : ℕ → When → When → Type 0
 IsLater minutes one other = (t : ℕ) → is_due other (t + minutes) ≡ is_due one t
 
--- the starts are shifted so
+-- the starts come so many minutes later, or earlier
+abbrev pub IsMovedBy : Bool → ℕ → When → When → Type 0
+IsMovedBy true minutes old new = IsLater minutes old new
+IsMovedBy false minutes old new = IsLater minutes new old
+
 abbrev pub IsShifted : Shift → When → When → Type 0
-IsShifted (Later minutes) old new = IsLater minutes old new
-IsShifted (Earlier minutes) old new = IsLater minutes new old
+IsShifted shift = IsMovedBy shift.is_later shift.minutes
 
 -- how a change shifts the starts of a cron job: by no minute where it says nothing of them
+abbrev pub unmoved : Shift
+unmoved = record { is_later = true; minutes = 0 }
+
 abbrev pub shift_of : Change → ℕ → Shift
-shift_of (Alone start) job = if start.job == job then start.shift else Later 0
+shift_of (Alone start) job = if start.job == job then start.shift else unmoved
 shift_of (Both one other) job =
-    if one.job == job then one.shift else (if other.job == job then other.shift else Later 0)
-shift_of (Other member) job = Later 0
+    if one.job == job then one.shift else (if other.job == job then other.shift else unmoved)
+shift_of (Other member) job = unmoved
 
 -- the same command, on the same line, and its starts are shifted so
 pub record IsMovedLine (shift : Shift) (old new : CommandLine) : Type 0 where

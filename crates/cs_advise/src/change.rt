@@ -2,29 +2,10 @@ use cs_civil::{Bytes, Hours};
 use cs_history::Mode;
 
 /// How many minutes later or earlier a command starts.
-#[derive(Clone, Copy, PartialEq, Eq)]
-pub(crate) enum Shift {
-    /// So many later.
-    Later(u16),
-    /// So many earlier.
-    Earlier(u16),
-}
-
-impl Shift {
-    /// Returns by how many minutes it shifts.
-    pub(crate) fn minutes(self) -> u16 {
-        match self {
-            Shift::Later(minutes) | Shift::Earlier(minutes) => minutes,
-        }
-    }
-
-    /// Returns a shift in the same direction by so many minutes.
-    pub(crate) fn by(self, minutes: u16) -> Shift {
-        match self {
-            Shift::Later(_) => Shift::Later(minutes),
-            Shift::Earlier(_) => Shift::Earlier(minutes),
-        }
-    }
+#[derive(Clone, Copy)]
+pub(crate) struct Shift {
+    pub(crate) is_later: bool,
+    pub(crate) minutes: u16,
 }
 
 /// A cron job's line whose command starts later or earlier.

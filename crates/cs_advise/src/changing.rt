@@ -63,9 +63,10 @@ fn is_shifted(shift: Shift, old: &When, new: &When) -> bool
     let When::At(new) = new else {
         return false;
     };
-    match shift {
-        Shift::Later(minutes) => is_later(old, new, minutes),
-        Shift::Earlier(minutes) => is_later(new, old, minutes),
+    if shift.is_later {
+        is_later(old, new, shift.minutes)
+    } else {
+        is_later(new, old, shift.minutes)
     }
 }
 
@@ -77,7 +78,10 @@ fn shift_of(change: &Change, job: usize) -> Shift
         Change::Start(start) if usize::from(start.job) == job => start.shift,
         Change::Both(one, _) if usize::from(one.job) == job => one.shift,
         Change::Both(_, other) if usize::from(other.job) == job => other.shift,
-        _ => Shift::Later(0),
+        _ => Shift {
+            is_later: true,
+            minutes: 0,
+        },
     }
 }
 

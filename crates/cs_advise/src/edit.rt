@@ -1,7 +1,7 @@
 //! Declarations in which one member has another value, and what is pasted to get them.
 ghost use Rattle.std.specs.Prelude.{◌≡◌, ◌++◌, IfOk, IfSome, map};
 ghost use Rattle.cs_advise.specs.Edit.{HasOther, IsEntryPut, IsMemberPut, IsPut, blank_control};
-ghost use Rattle.cs_advise.specs.Edit.{member_text, mode_text};
+ghost use Rattle.cs_advise.specs.Edit.{member_text};
 
 use crate::change::Member;
 use crate::text::{joined, replaced};
@@ -183,19 +183,6 @@ fn member_put(
     }
 }
 
-/// How declarations write a mode.
-fn mode_text(mode: Mode) -> &'static [u8]
-    ensures { result.now ≡ mode_text mode }
-{
-    match mode {
-        Mode::Plain => b"\"none\"",
-        Mode::Skip => b"\"skip\"",
-        Mode::Try => b"\"try\"",
-        Mode::Wait => b"\"wait\"",
-        Mode::Shared => b"\"shared\"",
-    }
-}
-
 /// The declarations with another value of a member. The only error is want of memory.
 pub(crate) fn edit_of(
     alloc: Global,
@@ -211,7 +198,16 @@ pub(crate) fn edit_of(
             let value = write(alloc, max)?;
             entry_put(alloc, plan, text, *job, "max", value.as_slice())
         }
-        Member::Mode(job, mode) => entry_put(alloc, plan, text, *job, "mode", mode_text(*mode)),
+        Member::Mode(job, mode) => {
+            let value: &[u8] = match mode {
+                Mode::Plain => b"\"none\"",
+                Mode::Skip => b"\"skip\"",
+                Mode::Try => b"\"try\"",
+                Mode::Wait => b"\"wait\"",
+                Mode::Shared => b"\"shared\"",
+            };
+            entry_put(alloc, plan, text, *job, "mode", value)
+        }
         Member::Capacity(capacity) => {
             let value = write(alloc, capacity)?;
             member_put(alloc, text, "capacity", value.as_slice())

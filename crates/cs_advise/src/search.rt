@@ -3,10 +3,9 @@
 
 use crate::change::{Change, Member, Shift, Start};
 use crate::changing::changed_plan;
-use crate::shifting::shifted_line;
+use crate::shifting::shifted_start;
 use crate::source::Source;
 use cs_civil::Hours;
-use cs_crontab::When;
 use cs_history::Mode;
 use cs_judge::is_called_safe;
 use cs_plan::{MAX_CAPACITY, Plan};
@@ -36,20 +35,17 @@ const STEPS: [u16; 10] = [5, 10, 15, 20, 30, 40, 50, 60, 90, 120];
 fn is_found(changes: &[Change], job: u16, shift: Shift) -> bool {
     for change in changes {
         if let Change::Start(start) = change {
-            if start.job == job && start.shift.by(0) == shift.by(0) {
+            let is_so = if shift.is_later {
+                start.shift.is_later
+            } else {
+                !start.shift.is_later
+            };
+            if start.job == job && is_so {
                 return true;
             }
         }
     }
     false
-}
-
-/// By how many minutes a change shifts one start.
-fn minutes_of(change: &Change) -> u16 {
-    match change {
-        Change::Start(start) => start.shift.minutes(),
-        _ => 0,
-    }
 }
 
 /// A member of which values are tried.
@@ -73,21 +69,6 @@ impl<R: Threads + Sync> Search<'_, R> {
         }
     }
 
-    /// The start of a job later or earlier, if fields can say it.
-    fn shifted(&self, job: u16, shift: Shift) -> Result<Option<Start>, AllocError> {
-        let Some(line) = self.plan.crontab().lines().get(usize::from(job)) else {
-            return Ok(None);
-        };
-        let When::At(schedule) = line.when() else {
-            return Ok(None);
-        };
-        let table = self.source.table.as_slice();
-        match shifted_line(self.alloc, table, line.number(), schedule, shift)? {
-            Some(line) => Ok(Some(Start { job, shift, line })),
-            None => Ok(None),
-        }
-    }
-
     /// Adds the starts of two jobs later or earlier, if fields can say them and the plan is safe with
     /// them, and tells whether it is.
     fn add_both(
@@ -96,10 +77,11 @@ impl<R: Threads + Sync> Search<'_, R> {
         jobs: (u16, u16),
         shifts: (Shift, Shift),
     ) -> Result<bool, AllocError> {
-        let Some(one) = self.shifted(jobs.0, shifts.0)? else {
+        let (source, plan) = (self.source, self.plan);
+        let Some(one) = shifted_start(self.alloc, source, plan, jobs.0, shifts.0)? else {
             return Ok(false);
         };
-        let Some(other) = self.shifted(jobs.1, shifts.1)? else {
+        let Some(other) = shifted_start(self.alloc, source, plan, jobs.1, shifts.1)? else {
             return Ok(false);
         };
         let change = Change::Both(one, other);
@@ -108,45 +90,6 @@ impl<R: Threads + Sync> Search<'_, R> {
             changes.push(change)?;
         }
         Ok(is_safe)
-    }
-
-    /// So it is with starts that many minutes later or earlier.
-    fn add_both_by(
-        &self,
-        changes: &mut Vec<Change>,
-        jobs: (u16, u16),
-        one: u16,
-        other: u16,
-    ) -> Result<bool, AllocError> {
-        for shifts in [
-            (Shift::Later(one), Shift::Later(other)),
-            (Shift::Later(one), Shift::Earlier(other)),
-            (Shift::Earlier(one), Shift::Later(other)),
-            (Shift::Earlier(one), Shift::Earlier(other)),
-        ] {
-            if self.add_both(changes, jobs, shifts)? {
-                return Ok(true);
-            }
-        }
-        Ok(false)
-    }
-
-    /// So it is with starts that are shifted by so many minutes together.
-    fn add_both_within(
-        &self,
-        changes: &mut Vec<Change>,
-        jobs: (u16, u16),
-        together: u16,
-        within: u16,
-    ) -> Result<bool, AllocError> {
-        for one in STEPS {
-            let other = together.saturating_sub(one);
-            let is_step = one <= within && other <= within && STEPS.as_slice().contains(&other);
-            if is_step && self.add_both_by(changes, jobs, one, other)? {
-                return Ok(true);
-            }
-        }
-        Ok(false)
     }
 
     /// Adds the starts of the first two jobs with which the plan is safe, nearest first: at most
@@ -160,9 +103,24 @@ impl<R: Threads + Sync> Search<'_, R> {
         let [one, other, ..] = jobs else {
             return Ok(());
         };
-        for together in 10..=240u16 {
-            if self.add_both_within(changes, (*one, *other), together, within)? {
-                return Ok(());
+        // by 10 to 240 minutes together, of which the first has each step, in each of four ways
+        for number in 0..231 * 40u16 {
+            let minutes = STEPS[usize::from(number / 4 % 10)];
+            let others = (10 + number / 40).saturating_sub(minutes);
+            if minutes <= within && others <= within && STEPS.as_slice().contains(&others) {
+                let shifts = (
+                    Shift {
+                        is_later: number % 4 < 2,
+                        minutes,
+                    },
+                    Shift {
+                        is_later: number % 2 == 0,
+                        minutes: others,
+                    },
+                );
+                if self.add_both(changes, (*one, *other), shifts)? {
+                    return Ok(());
+                }
             }
         }
         Ok(())
@@ -170,7 +128,7 @@ impl<R: Threads + Sync> Search<'_, R> {
 
     /// The start of a job later or earlier, if the plan is safe with it.
     fn safe_start(&self, job: u16, shift: Shift) -> Result<Option<Change>, AllocError> {
-        let Some(start) = self.shifted(job, shift)? else {
+        let Some(start) = shifted_start(self.alloc, self.source, self.plan, job, shift)? else {
             return Ok(None);
         };
         let change = Change::Start(start);
@@ -192,10 +150,9 @@ impl<R: Threads + Sync> Search<'_, R> {
         let Some(start) = self.safe_start(job, shift)? else {
             return Ok(());
         };
-        let minutes = shift.minutes();
-        if FINE < minutes {
-            for fewer in minutes.saturating_sub(FINE - 1)..minutes {
-                if let Some(nearer) = self.safe_start(job, shift.by(fewer))? {
+        if FINE < shift.minutes {
+            for minutes in shift.minutes.saturating_sub(FINE - 1)..shift.minutes {
+                if let Some(nearer) = self.safe_start(job, Shift { minutes, ..shift })? {
                     changes.push(nearer)?;
                     return Ok(());
                 }
@@ -213,8 +170,9 @@ impl<R: Threads + Sync> Search<'_, R> {
         minutes: u16,
     ) -> Result<(), AllocError> {
         for job in jobs {
-            self.add_start(changes, *job, Shift::Later(minutes))?;
-            self.add_start(changes, *job, Shift::Earlier(minutes))?;
+            for is_later in [true, false] {
+                self.add_start(changes, *job, Shift { is_later, minutes })?;
+            }
         }
         Ok(())
     }
@@ -305,7 +263,10 @@ impl<R: Threads + Sync> Search<'_, R> {
                 self.add_starts(changes, jobs, minutes)?;
             }
         }
-        changes.sort_by_key(|change| minutes_of(change))?;
+        changes.sort_by_key(|change| match change {
+            Change::Start(start) => start.shift.minutes,
+            _ => 0,
+        })?;
         self.add_declared(changes, jobs)?;
         // where the greatest capacity doesn't help, none does
         if self.is_safe(&Change::Member(Member::Capacity(MAX_CAPACITY)))? {

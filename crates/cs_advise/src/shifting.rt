@@ -1,24 +1,15 @@
 //! Lines of a table whose commands start later or earlier. Nothing here is relied on: a changed
 //! table is read again and judged.
 
-use crate::change::Shift;
+use crate::change::{Shift, Start};
 use crate::later::is_daily;
+use crate::source::Source;
 use cs_civil::{Bytes, MINUTES_OF_DAY, push_number};
-use cs_crontab::{Part, Schedule};
+use cs_crontab::{Part, Schedule, When};
 use cs_diagnostics::Span;
+use cs_plan::Plan;
 use cs_table::text::{first_line, skip_blanks, word};
 use std::alloc::{AllocError, Global};
-
-/// The numbers of a field, a bit each.
-fn numbers_of(schedule: &Schedule, part: Part) -> u64 {
-    let mut numbers = 0u64;
-    for number in 0..64u8 {
-        if schedule.field(part).has(number) {
-            numbers |= 1u64 << number;
-        }
-    }
-    numbers
-}
 
 /// Adds numbers, a bit each, with commas between them; `*` where they are as many as there can be.
 fn push_numbers(
@@ -43,20 +34,6 @@ fn push_numbers(
     Ok(())
 }
 
-/// The minute of the day that another one becomes, and whether that is on another day.
-fn moved(minute: u16, shift: Shift) -> (u16, bool) {
-    match shift {
-        Shift::Later(by) => {
-            let at = minute.saturating_add(by);
-            (at % MINUTES_OF_DAY, at >= MINUTES_OF_DAY)
-        }
-        Shift::Earlier(by) => {
-            let at = minute.saturating_add(MINUTES_OF_DAY).saturating_sub(by);
-            (at % MINUTES_OF_DAY, at < MINUTES_OF_DAY)
-        }
-    }
-}
-
 /// The minutes and the hours of a shifted schedule, a bit each; none where no two lists give its
 /// times, or where a day field is restricted and a time comes over a midnight.
 fn shifted_times(schedule: &Schedule, shift: Shift) -> Option<(u64, u64)> {
@@ -64,8 +41,19 @@ fn shifted_times(schedule: &Schedule, shift: Shift) -> Option<(u64, u64)> {
     let mut minutes = 0u64;
     let mut hours = 0u64;
     let mut times = 0u32;
+    // so many minutes earlier are the others of a day later
+    let by = if shift.is_later {
+        shift.minutes
+    } else {
+        MINUTES_OF_DAY.saturating_sub(shift.minutes)
+    };
     for minute in schedule.times().iter() {
-        let (at, is_over) = moved(minute, shift);
+        let at = minute.saturating_add(by);
+        let is_over = if shift.is_later {
+            at >= MINUTES_OF_DAY
+        } else {
+            at < MINUTES_OF_DAY
+        };
         if is_over && !is_daily {
             return None;
         }
@@ -80,7 +68,7 @@ fn shifted_times(schedule: &Schedule, shift: Shift) -> Option<(u64, u64)> {
 }
 
 /// Adds what stands behind the hour of a line: its day fields and its command. Those of `@daily`
-/// and its like are written as fields.
+/// and its like are written as fields, each `*` or its first number.
 fn push_rest(
     alloc: Global,
     text: &mut Vec<u8>,
@@ -91,9 +79,13 @@ fn push_rest(
     if first.first() != Some(&b'@') {
         return text.extend_from_slice(word(skip_blanks(behind)).1);
     }
-    for (part, most) in [(Part::Dom, 31u32), (Part::Month, 12), (Part::Dow, 7)] {
+    for part in [Part::Dom, Part::Month, Part::Dow] {
         text.push(b' ')?;
-        push_numbers(alloc, text, numbers_of(schedule, part), most)?;
+        if schedule.field(part).begins_with_star() {
+            text.push(b'*')?;
+        } else {
+            push_number(alloc, text, u128::from(part.first()))?;
+        }
     }
     text.extend_from_slice(behind)
 }
@@ -114,15 +106,20 @@ pub(crate) fn line_span(text: &[u8], number: u32) -> Span {
     Span::of(text.len(), 0)
 }
 
-/// The line of a command that starts later or earlier, if fields can say so. The only error is want
-/// of memory.
-pub(crate) fn shifted_line(
+/// The start of a job later or earlier, if fields can say it. The only error is want of memory.
+pub(crate) fn shifted_start(
     alloc: Global,
-    table: &[u8],
-    number: u32,
-    schedule: &Schedule,
+    source: &Source,
+    plan: &Plan,
+    job: u16,
     shift: Shift,
-) -> Result<Option<Bytes>, AllocError> {
+) -> Result<Option<Start>, AllocError> {
+    let Some(line) = plan.crontab().lines().get(usize::from(job)) else {
+        return Ok(None);
+    };
+    let When::At(schedule) = line.when() else {
+        return Ok(None);
+    };
     let Some((minutes, hours)) = shifted_times(schedule, shift) else {
         return Ok(None);
     };
@@ -130,7 +127,9 @@ pub(crate) fn shifted_line(
     push_numbers(alloc, &mut text, minutes, 60)?;
     text.push(b' ')?;
     push_numbers(alloc, &mut text, hours, 24)?;
-    let line = line_span(table, number).bytes(table);
-    push_rest(alloc, &mut text, line, schedule)?;
-    Ok(Some(Bytes::from_vec(text)))
+    let table = source.table.as_slice();
+    let old = line_span(table, line.number()).bytes(table);
+    push_rest(alloc, &mut text, old, schedule)?;
+    let line = Bytes::from_vec(text);
+    Ok(Some(Start { job, shift, line }))
 }

@@ -2,7 +2,7 @@
 ghost use Rattle.std.specs.Prelude.{◌≡◌, ◌++◌, IfOk, OnOk, map};
 ghost use Rattle.cs_advise.specs.Advice.{EndsIn, IsLine, seen};
 
-use crate::change::{Change, Member, Shift, Start};
+use crate::change::{Change, Member, Start};
 use crate::label::push_label;
 use cs_check::Checked;
 use cs_history::Mode;
@@ -102,9 +102,11 @@ fn start_line(
 ) -> Result<Vec<u8>, AllocError>
     ensures { IfOk result (λ line. EndsIn line.items (map seen start.now.line)) }
 {
-    let (minutes, way) = match start.shift {
-        Shift::Later(minutes) => (minutes, "later"),
-        Shift::Earlier(minutes) => (minutes, "earlier"),
+    let minutes = start.shift.minutes;
+    let way = if start.shift.is_later {
+        "later"
+    } else {
+        "earlier"
     };
     let unit = unit(minutes);
     let words = format!(in alloc; ", {minutes} {unit} {way}: ")?;

@@ -1,7 +1,7 @@
 //! Asking the daemon that uses a folder of stamps.
 ghost use Rattle.std.specs.Prelude.{◌≡◌, ◌++◌, [], IfOk};
 ghost use Rattle.cs_files.specs.Response.{complaint, status_of};
-ghost use Rattle.cs_ask.specs.Asking.{MayTell, Refuses, in_front_of, refusal_status, refused};
+ghost use Rattle.cs_ask.specs.Asking.{MayTell, Refuses, in_front_of, refused};
 ghost use Rattle.cs_files.specs.Ending.{sink};
 
 use cs_files::{Response, Status, finish, run_out, tell};
@@ -49,22 +49,17 @@ impl Refusal {
         }
     }
 
-    fn status(self) -> Status
-        ensures { status_of result ≡ refusal_status self }
-    {
-        match self {
-            Refusal::NoDaemon => Status::Unknown,
-            _ => Status::DeviceFailed,
-        }
-    }
-
     /// What is answered.
     pub(crate) fn response(self, alloc: Global, folder: &str) -> Result<Response, AllocError>
         ensures { IfOk result (λ r. r ≡ refused self folder.now) }
     {
         let mut fault = Vec::from_slice(alloc, self.text().as_bytes())?;
         fault.extend_from_slice(folder.as_bytes())?;
-        Response::fault(alloc, self.status(), b"".as_slice(), fault.as_slice())
+        let status = match self {
+            Refusal::NoDaemon => Status::Unknown,
+            _ => Status::DeviceFailed,
+        };
+        Response::fault(alloc, status, b"".as_slice(), fault.as_slice())
     }
 }
 

@@ -99,20 +99,6 @@ fn look<R: Files<File = File>>(rt: &R, alloc: Global, folder: &str) -> Result<Ve
     file.read(rt, alloc).map_err(|_| Refusal::Untold)
 }
 
-/// What is answered to the words of `status`.
-fn answer_status<R: Files<File = File> + Clock>(
-    rt: &R,
-    alloc: Global,
-    words: StatusWords<'_>,
-) -> Result<Response, AllocError>
-    ensures { IfOk result (IsAnswer words.entry.stamps.now) }
-{
-    match look(rt, alloc, words.stamps) {
-        Ok(state) => respond_to(rt, alloc, words, state),
-        Err(refusal) => refusal.response(alloc, words.stamps),
-    }
-}
-
 /// Tells what the daemon of a folder of stamps does, and gives the status: 0 all is well, 1 a run is
 /// late or a stamp couldn't be written, 2 no daemon uses the folder or the state is too old, 5 want of
 /// memory, 6 the folder or the state in it can't be used.
@@ -130,7 +116,11 @@ pub fn tell_status<R: Files<File = File> + Clock, O: Output, E: Output>(
         (sink (E.contents err.new) (E.failed err.new))
         (status_of result) }
 {
-    match answer_status(rt, alloc, words) {
+    let answered = match look(rt, alloc, words.stamps) {
+        Ok(state) => respond_to(rt, alloc, words, state),
+        Err(refusal) => refusal.response(alloc, words.stamps),
+    };
+    match answered {
         Ok(response) => finish(&response, out, err),
         Err(AllocError) => run_out(err),
     }

@@ -1,7 +1,7 @@
 //! Durations, as timeout(1) reads them: a number and a unit.
-ghost use Rattle.std.specs.Prelude.{◌≡◌, ◌≤◌, ◌*◌, ◌+◌, ◌^◌, IfSome, drop, if◌then◌else◌, min, not};
+ghost use Rattle.std.specs.Prelude.{◌≡◌, ◌≤◌, ◌*◌, ◌+◌, ◌^◌, IfSome, drop, if◌then◌else◌, min};
 ghost use Rattle.std.specs.Int.{div_ceil};
-ghost use Rattle.cs_table.specs.Text.{begins_with, front, is_digit, is_nothing};
+ghost use Rattle.cs_table.specs.Text.{begins_with};
 ghost use Rattle.cs_command.specs.Timeouts.{MOST, seconds_of, unit_of};
 
 use cs_table::text::digits;
@@ -21,16 +21,6 @@ fn unit_of(suffix: &[u8]) -> Option<u32>
         b"h" => Some(3_600),
         b"d" => Some(86_400),
         _ => None,
-    }
-}
-
-#[tactic(auto, unfolding(cs_table::specs::Text::front))]
-fn begins_with_digit(word: &[u8]) -> bool
-    ensures { result ≡ not (is_nothing (front is_digit word.now)) }
-{
-    match word {
-        [byte, ..] => byte.is_ascii_digit(),
-        [] => false,
     }
 }
 
@@ -76,11 +66,14 @@ fn seconds_in(whole: u32, decimals: u32, count: usize, unit: u32) -> u32
 
 /// The seconds of a duration, rounded up; none where the word is no number of at most six decimals
 /// with a unit.
-#[tactic(auto, unfolding(crate::specs::Timeouts::seconds_of))]
+#[tactic(auto, unfolding(crate::specs::Timeouts::seconds_of, cs_table::specs::Text::front))]
 pub(crate) fn seconds_of(word: &[u8]) -> Option<u32>
     ensures { result ≡ seconds_of word.now }
 {
-    if !begins_with_digit(word) {
+    let [first, ..] = word else {
+        return None;
+    };
+    if !first.is_ascii_digit() {
         return None;
     }
     let (whole, rest) = digits(word);

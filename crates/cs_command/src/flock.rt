@@ -1,8 +1,8 @@
 //! A plain call of flock(1), as util-linux has it: options, the path of a file, and a program.
 ghost use Rattle.std.specs.Prelude.{◌≡◌, false, length, option_map};
-ghost use Rattle.cs_command.specs.Locks.{asked_in, behind_c, behind_option, behind_redirection};
-ghost use Rattle.cs_command.specs.Locks.{behind_sign, call_in, is_at_once, is_exclusive};
-ghost use Rattle.cs_command.specs.Locks.{is_held, is_program, is_shared, with_option};
+ghost use Rattle.cs_command.specs.Locks.{asked_in, behind_option, behind_redirection, behind_sign};
+ghost use Rattle.cs_command.specs.Locks.{call_in, is_at_once, is_exclusive, is_held, is_program};
+ghost use Rattle.cs_command.specs.Locks.{is_shared, with_option};
 ghost use Rattle.cs_command.specs.Words.{behind_all};
 
 use crate::fronts::{begins_with, behind_fronts};
@@ -141,26 +141,21 @@ pub(crate) fn is_program(text: &[u8]) -> bool
         && behind_redirections(behind_words(text)).is_empty()
 }
 
-/// What stands behind the option that has a command in the next word, if it is there.
-#[tactic(auto, unfolding(crate::specs::Locks::behind_c))]
-fn behind_c(text: &[u8]) -> &[u8]
-    ensures { result.now ≡ behind_c text.now }
-{
-    if is_one_of(b"-c --command", first_word(text)) {
-        return behind_word(text);
-    }
-    text
-}
-
 // ---- the lock
 
-/// Whether the program behind the path of a file keeps its lock to its end.
-#[tactic(auto, unfolding(crate::specs::Locks::is_held))]
+/// Whether the program behind the path of a file, or in the word behind its `-c`, keeps its lock to
+/// its end.
+#[tactic(auto, unfolding(crate::specs::Locks::is_held, crate::specs::Locks::behind_c))]
 fn is_held(text: &[u8], path: &[u8], behind: &[u8]) -> bool
     ensures { result ≡ is_held text.now (path.now, behind.now) }
 {
+    let program = if is_one_of(b"-c --command", first_word(behind)) {
+        behind_word(behind)
+    } else {
+        behind
+    };
     is_file(path)
-        && is_program(behind_c(behind))
+        && is_program(program)
         && count_of(Kind::Leaves, behind) == 0
         && count_of(Kind::Locks, text) == 1
         && has_one_place(common_path(path), text)

@@ -1,11 +1,17 @@
 //! What a command is named after: its program, by a looser reading than that of locks.
 use crate::fronts::{begins_with, is_setting};
 use crate::words::{behind_word, first_word, is_one_of};
+use cs_table::text::digits;
 
 /// Whether there is a word, which a shell takes as it stands.
 fn is_unsigned(word: &[u8]) -> bool {
     let signs = b"\"'\\`;&|()<>#%".as_slice();
-    !word.is_empty() && !word.iter().any(|byte| signs.contains(byte))
+    for byte in word {
+        if signs.contains(byte) {
+            return false;
+        }
+    }
+    !word.is_empty()
 }
 
 /// What stands behind options and numbers, such as those of nice(1), ionice(1) and flock(1).
@@ -16,7 +22,7 @@ fn behind_options(text: &[u8]) -> &[u8] {
         let behind = behind_word(rest);
         if is_one_of(b"-c --class", first) {
             rest = behind_word(behind);
-        } else if begins_with(b'-', first) || first.iter().all(|byte| byte.is_ascii_digit()) {
+        } else if begins_with(b'-', first) || digits(first).1.is_empty() {
             rest = behind;
         } else {
             return rest;

@@ -1,9 +1,9 @@
 //! Which folder's programs a command of a table runs by run-parts(8).
 use crate::fronts::begins_with;
 use crate::paths::{behind_place, has_one_place};
-use crate::words::{Class, behind_word, first_word, split_front};
+use crate::words::{Class, behind_word, first_word, is_one_of, split_front};
 use cs_place::split_last_word;
-use cs_table::text::{digits, is_among, skip_blanks};
+use cs_table::text::{digits, skip_blanks};
 use memchr::memchr;
 use std::str;
 
@@ -70,38 +70,15 @@ fn goes_on(text: &[u8]) -> bool {
     false
 }
 
-/// The words of a call, which stand in front of these bytes: a number directly in front of `<` or
-/// `>` is none.
-fn call_text<'c>(words: &'c [u8], others: &[u8]) -> &'c [u8] {
-    let (before, last) = split_last_word(words);
-    let turns = begins_with(b'<', others) || begins_with(b'>', others);
-    if turns && digits(last).1.is_empty() {
-        before
-    } else {
-        words
-    }
-}
-
 /// Whether the word stands for itself: a shell puts nothing else in its place.
 fn is_plain(word: &[u8]) -> bool {
     let signs = b"\"'\\$`*?[]{}~".as_slice();
-    !word
-        .iter()
-        .any(|byte| signs.contains(byte) || byte.is_ascii_control())
-}
-
-/// Whether an option changes nothing about which programs run.
-fn is_quiet(word: &[u8]) -> bool {
-    let words: [&[u8]; 6] = [
-        b"--report",
-        b"-v",
-        b"--verbose",
-        b"--exit-on-error",
-        b"--new-session",
-        b"--stdin",
-    ];
-    let begins = word.starts_with(b"--arg=".as_slice()) || word.starts_with(b"--umask=".as_slice());
-    is_among(&words, word) || begins && is_plain(word)
+    for byte in word {
+        if signs.contains(byte) || byte.is_ascii_control() {
+            return false;
+        }
+    }
+    true
 }
 
 /// What a call with that folder runs.
@@ -120,7 +97,8 @@ fn programs_of(folder: Option<&[u8]>, is_reversed: bool) -> RunParts<'_> {
 /// What the words of a call run. Options and folders come in any order, and `--` ends the options.
 fn run_by(text: &[u8]) -> RunParts<'_> {
     let unknown = RunParts::Unread("run-parts has an option that isn't known here");
-    let valued: [&[u8]; 2] = [b"-a", b"-u"];
+    // these change nothing about which programs run
+    let quiet = b"--report -v --verbose --exit-on-error --new-session --stdin";
     let mut folder = None;
     let mut is_reversed = false;
     let mut may_be_option = true;
@@ -128,26 +106,29 @@ fn run_by(text: &[u8]) -> RunParts<'_> {
     for _ in 0..text.len() {
         let word = first_word(rest);
         rest = behind_word(rest);
-        if word.is_empty() || word == b"}".as_slice() {
+        if word.is_empty() || is_one_of(b"}", word) {
             break;
         }
-        if !may_be_option || !begins_with(b'-', word) || word == b"-".as_slice() {
+        if !may_be_option || !begins_with(b'-', word) || is_one_of(b"-", word) {
             if folder.is_some() {
                 return RunParts::Unread("run-parts has more than one folder");
             }
             folder = Some(word);
-        } else if is_among(&valued, word) {
+        } else if is_one_of(b"-a -u", word) {
             let value = first_word(rest);
             if value.is_empty() || !is_plain(value) {
                 return unknown;
             }
             rest = behind_word(rest);
-        } else if word == b"--reverse".as_slice() {
+        } else if is_one_of(b"--reverse", word) {
             is_reversed = true;
-        } else if word == b"--".as_slice() {
+        } else if is_one_of(b"--", word) {
             may_be_option = false;
-        } else if !is_quiet(word) {
-            return unknown;
+        } else if !is_one_of(quiet, word) {
+            let begins = word.starts_with(b"--arg=".as_slice());
+            if !(begins || word.starts_with(b"--umask=".as_slice())) || !is_plain(word) {
+                return unknown;
+            }
         }
     }
     programs_of(folder, is_reversed)
@@ -177,5 +158,11 @@ pub fn run_parts(command: &[u8]) -> RunParts<'_> {
     if goes_on(others) {
         return RunParts::Unread("run-parts isn't the last program in it");
     }
-    run_by(call_text(words, others))
+    // a number directly in front of `<` or `>` is no word of the call
+    let (before, last) = split_last_word(words);
+    let turns = begins_with(b'<', others) || begins_with(b'>', others);
+    if turns && digits(last).1.is_empty() {
+        return run_by(before);
+    }
+    run_by(words)
 }

@@ -112,10 +112,9 @@ fn quoted_at(quote: u8, text: &[u8]) -> Option<(&[u8], &[u8])>
     ensures { option_map (λ word. (word.0.now, word.1.now)) result ≡ quoted_at quote text.now }
 {
     let (word, rest) = split_front(Class::Quoted, text);
-    if first_word(rest) == [quote].as_slice() {
-        Some((word, behind_word(rest)))
-    } else {
-        None
+    match first_word(rest) {
+        [byte] if *byte == quote => Some((word, behind_word(rest))),
+        _ => None,
     }
 }
 

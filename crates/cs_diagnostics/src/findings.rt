@@ -117,21 +117,14 @@ impl Findings {
         start.or(self.starts.last()).copied().unwrap_or(0)
     }
 
-    fn rank(&self, is_odd: bool, from: usize) -> usize {
-        if is_odd {
-            return self
-                .faults
-                .len()
-                .saturating_add(rank(self.oddities.as_slice(), from));
-        }
-        rank(self.faults.as_slice(), from)
-    }
-
     fn add(&mut self, is_odd: bool, place: Span, words: impl Display + Drop) -> Done {
         if self.faults.len().saturating_add(self.oddities.len()) >= MAX_TOLD {
             self.more = self.more.saturating_add(1);
         }
-        if self.rank(is_odd, place.from) >= MAX_TOLD {
+        let (faults, oddities) = (self.faults.as_slice(), self.oddities.as_slice());
+        let before = if is_odd { faults.len() } else { 0 };
+        let among = if is_odd { oddities } else { faults };
+        if before.saturating_add(rank(among, place.from)) >= MAX_TOLD {
             return Ok(());
         }
         let line = self.starts.partition_point(|start| *start <= place.from) as u64;
@@ -207,7 +200,7 @@ impl Findings {
     /// Whether something that is wrong here would be told, by what was added so far; else counts
     /// it.
     pub fn takes_fault(&mut self, place: Span) -> bool {
-        let takes = self.rank(false, place.from) < MAX_TOLD;
+        let takes = rank(self.faults.as_slice(), place.from) < MAX_TOLD;
         if !takes {
             self.more = self.more.saturating_add(1);
         }

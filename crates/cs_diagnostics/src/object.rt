@@ -1,5 +1,5 @@
 //! The objects of a JSON text, with the places of their members.
-use crate::outline::{Part, parts, text_in};
+use crate::outline::{Part, parsed, parts};
 use crate::span::Span;
 use serde_json::Value;
 use std::alloc::{AllocError, Global};
@@ -23,7 +23,7 @@ impl<'v> Object<'v> {
     ) -> Result<Object<'v>, AllocError> {
         let mut members = Vec::new(alloc);
         for part in parts(alloc, bytes, span)? {
-            if let Some(name) = text_in(alloc, part.name.bytes(bytes))? {
+            if let Ok(Value::String(name)) = parsed(alloc, part.name.bytes(bytes))? {
                 members.push((name, part))?;
             }
         }
@@ -36,14 +36,17 @@ impl<'v> Object<'v> {
 
     /// Whether it has a member of that name.
     pub fn has(&self, name: &str) -> bool {
-        self.members.iter().any(|(own, _)| own.as_str() == name)
+        self.member(name).is_some()
     }
 
     /// The value of the last member of that name, which is the one that counts, and its place.
     pub fn member(&self, name: &str) -> Option<(&'v Value, Span)> {
-        let mut last_first = self.members.iter().rev();
-        let (_, part) = last_first.find(|(own, _)| own.as_str() == name)?;
-        Some((self.value.get(name)?, part.value))
+        for (own, part) in self.members.iter().rev() {
+            if own.as_str() == name {
+                return Some((self.value.get(name)?, part.value));
+            }
+        }
+        None
     }
 
     /// The text that a member is, if it's there and is one, and where it stands.

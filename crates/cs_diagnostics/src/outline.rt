@@ -12,26 +12,20 @@ pub fn parsed(alloc: Global, bytes: &[u8]) -> Result<Result<Value, Error>, Alloc
     }
 }
 
-/// Whether JSON takes the byte for blank.
-pub(crate) fn is_space(byte: u8) -> bool {
-    matches!(byte, b' ' | b'\t' | b'\n' | b'\r')
-}
-
-/// The span without the blanks at its ends.
+/// The span without the bytes at its ends that JSON takes for blanks.
 pub fn trimmed(bytes: &[u8], span: Span) -> Span {
-    let text = span.bytes(bytes);
-    let first = text.iter().position(|byte| !is_space(*byte));
-    let last = text.iter().rposition(|byte| !is_space(*byte));
-    match (first, last) {
-        (Some(first), Some(last)) => {
-            Span::between(first, last.saturating_add(1)).behind(span.from)
+    let (mut from, mut to) = (0usize, 0usize);
+    for (at, byte) in span.bytes(bytes).iter().enumerate() {
+        if !matches!(*byte, b' ' | b'\t' | b'\n' | b'\r') {
+            from = if to == 0 { at } else { from };
+            to = at.saturating_add(1);
         }
-        _ => Span::of(span.from, 0),
     }
+    Span::between(from, to).behind(span.from)
 }
 
 /// What a scan of a JSON text knows of the byte that comes next.
-#[derive(Clone, Copy, Default)]
+#[derive(Drop)]
 struct Scan {
     /// How many objects and lists it stands in.
     depth: usize,
@@ -76,7 +70,11 @@ pub struct Part {
 /// memory.
 pub fn parts(alloc: Global, bytes: &[u8], span: Span) -> Result<Vec<Part>, AllocError> {
     let mut parts = Vec::new(alloc);
-    let mut scan = Scan::default();
+    let mut scan = Scan {
+        depth: 0,
+        in_text: false,
+        is_escaped: false,
+    };
     let mut from = span.from.saturating_add(1);
     let mut name = Span::of(from, 0);
     for (i, byte) in span.bytes(bytes).iter().enumerate() {
@@ -92,12 +90,4 @@ pub fn parts(alloc: Global, bytes: &[u8], span: Span) -> Result<Vec<Part>, Alloc
         }
     }
     Ok(parts)
-}
-
-/// The text that stands in quotes there, if one does.
-pub(crate) fn text_in(alloc: Global, quoted: &[u8]) -> Result<Option<String>, AllocError> {
-    match parsed(alloc, quoted)? {
-        Ok(Value::String(text)) => Ok(Some(text)),
-        _ => Ok(None),
-    }
 }

@@ -20,17 +20,6 @@ pub struct File<'a> {
     pub bytes: &'a [u8],
 }
 
-impl<'a> File<'a> {
-    /// What it is called where it is spoken of.
-    fn name(&self) -> &'a str {
-        if self.path == "-" {
-            "standard input"
-        } else {
-            self.path
-        }
-    }
-}
-
 /// The part of a line that is shown, by the bytes of the file where the line begins and where the
 /// place does.
 fn shown(bytes: &[u8], start: usize, place: usize) -> Span {
@@ -94,22 +83,21 @@ fn add_note(text: &mut Vec<u8>, notes: &[Note], line: u64) -> Done {
     Ok(())
 }
 
-/// Adds what is told of each of some findings, which are faults or odd.
+/// Adds what is told of each of some findings of a file of that name, which are faults or odd.
 fn add_findings(
     alloc: Global,
     text: &mut Vec<u8>,
-    file: &File<'_>,
+    (name, bytes): (&str, &[u8]),
     notes: &[Note],
     what: &str,
     findings: &[Finding],
 ) -> Done {
-    let name = file.name();
     for finding in findings.iter() {
         let (line, column) = (finding.line, finding.place.from as u128 + 1);
         let words = finding.words.as_str();
         let heading = format!(in alloc; "{name}:{line}:{column}: {what}: {words}\n")?;
         text.extend_from_slice(heading.as_bytes())?;
-        let below = marked(alloc, file.bytes, finding)?;
+        let below = marked(alloc, bytes, finding)?;
         text.extend_from_slice(below.as_slice())?;
         add_note(text, notes, finding.about)?;
     }
@@ -127,21 +115,21 @@ impl Findings {
     /// [`MAX_TOLD`](crate::MAX_TOLD) of them stands `FILE: and N more`. The only error is want of
     /// memory.
     pub fn tell(&self, file: &File<'_>, notes: &[Note], text: &mut Vec<u8>) -> Done {
-        add_findings(
-            self.alloc,
-            text,
-            file,
-            notes,
-            "fault",
-            self.faults.as_slice(),
-        )?;
+        let (alloc, faults) = (self.alloc, self.faults.as_slice());
+        let name = if file.path == "-" {
+            "standard input"
+        } else {
+            file.path
+        };
+        let named = (name, file.bytes);
+        add_findings(alloc, text, named, notes, "fault", faults)?;
         let left = MAX_TOLD
-            .saturating_sub(self.faults.len())
+            .saturating_sub(faults.len())
             .min(self.oddities.len());
-        add_findings(self.alloc, text, file, notes, "odd", &self.oddities[..left])?;
+        add_findings(alloc, text, named, notes, "odd", &self.oddities[..left])?;
         if self.more > 0 {
-            let (name, more) = (file.name(), self.more);
-            let last = format!(in self.alloc; "{name}: and {more} more\n")?;
+            let more = self.more;
+            let last = format!(in alloc; "{name}: and {more} more\n")?;
             text.extend_from_slice(last.as_bytes())?;
         }
         Ok(())

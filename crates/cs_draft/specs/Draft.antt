@@ -28,7 +28,6 @@ use Rattle.cs_decl.specs.Meaning.{declared_by}
 use Rattle.cs_decl.specs.Join.{is_left_out, is_named, is_of_job, join_faults}
 use Rattle.cs_plan.specs.Reboot.{is_reboot}
 use Rattle.cs_decl.specs.Lines.{names_of}
-use Rattle.cs_plan.specs.Plain.{is_possible_max}
 use Rattle.cs_decl.specs.When.{is_told_when, same_when}
 use Rattle.cs_command.specs.Words.{names_lock}
 use Rattle.cs_command.specs.Locks.{lock_of, is_below}
@@ -36,8 +35,6 @@ use Rattle.cs_command.specs.Timeouts.{asked_for, program_of, time_limit}
 use Rattle.cs_retrace.specs.Maxes.{max_of}
 use Rattle.cs_retrace.specs.Words.{if_so}
 use Rattle.cs_retrace.specs.declared.maxes.Given.{Given}
-use Rattle.cs_draft.specs.declared.draft.Drawing.{Drawing}
-use Rattle.cs_draft.specs.declared.draft.Drawing.TheVariants.{BadMax, NotConfirmed, Drawn}
 
 -- the lines have one command; and one schedule, if that is asked for
 abbrev pub are_like : Bool → CommandLine → CommandLine → Bool
@@ -344,12 +341,3 @@ Warn crontab anacrontab old bytes warnings = (d : Entries) × (declared_by bytes
     (filter (is_unlocked old d) crontab.lines)) (lines_of warnings) ≡ true)
     × (warn_of (codes "anacrontab") (map (λ job. job.number)
     (filter (is_unlocked_job old) anacrontab.lines)) (lines_of warnings) ≡ true)
-
--- An update where the longest time may be declared, with these warnings, and none where it may not.
-abbrev pub IsDrawing : Crontab → Anacrontab → List Place → Entries → ℕ → List Given → Drawing
-    → Type 0
-IsDrawing crontab anacrontab places old max given BadMax = is_possible_max max ≡ false
-IsDrawing crontab anacrontab places old max given NotConfirmed = is_possible_max max ≡ true
-IsDrawing crontab anacrontab places old max given (Drawn draft) =
-    (is_possible_max max ≡ true) × IsUpdate crontab anacrontab places old max given draft.text
-    × Warn crontab anacrontab old draft.text draft.warnings

@@ -1,27 +1,25 @@
 //! Whether lines and jobs are declared as an update has them: what old declarations tell is kept, and
 //! what they don't is new.
-ghost use Rattle.std.specs.Prelude.{◌≡◌, ◌⊎◌, ◌≤◌, [], IfOk, IfSome, IsSomeAnd, IsTrue, None};
-ghost use Rattle.std.specs.Prelude.{drop, false, find, length, option_map, pos, true};
+ghost use Rattle.std.specs.Prelude.{◌≡◌, ◌⊎◌, ◌≤◌, IfOk, IfSome, IsSomeAnd, IsTrue, drop, false};
+ghost use Rattle.std.specs.Prelude.{find, length, option_map, true};
 ghost use Rattle.std.specs.List.{list_all, list_any};
 ghost use Rattle.cs_decl.specs.Join.{is_left_out, is_named};
 ghost use Rattle.cs_schedule.specs.Gap.{AreApart, can_be_apart};
 ghost use Rattle.cs_schedule.specs.declared.gap.TheConstants.{MAX_GAP};
-ghost use Rattle.cs_draft.specs.Draft.{AreAlike, HasDefaultTime, HasNewTimes, HasTimes, IsAdded};
-ghost use Rattle.cs_draft.specs.Draft.{IsDefaultEntry, IsLocked, IsNewEntry, IsTimed, has_own};
-ghost use Rattle.cs_draft.specs.Draft.{IsUpdatedJob, IsUpdatedLine, is_guess, is_new_group, is_text};
-ghost use Rattle.cs_draft.specs.Draft.{may_follow, parts_of};
+ghost use Rattle.cs_draft.specs.Draft.{AreAlike, HasNewTimes, IsAdded, IsDefaultEntry, IsLocked};
+ghost use Rattle.cs_draft.specs.Draft.{IsNewEntry, IsUpdatedJob, IsUpdatedLine, has_own, is_guess};
+ghost use Rattle.cs_draft.specs.Draft.{is_new_group, is_text, may_follow, parts_of};
 ghost use Rattle.cs_command.specs.Locks.{lock_of};
-ghost use Rattle.cs_command.specs.Timeouts.{asked_for};
 
 use crate::given::{has_given, has_time, time_of};
-use crate::kept::{are_alike_jobs, follows, is_kept, is_new};
+use crate::kept::{are_alike, is_kept, is_new, may_follow};
 use crate::names::{entry_of, is_left_out, is_text, job_entry};
 use crate::parts::{has_parts, parts_of};
 use cs_anacrontab::Job;
 use cs_civil::Bytes;
 use cs_command::{asked_for, own_lock, time_limit};
 use cs_crontab::{Line, When};
-use cs_decl::{AnacronEntry, CronEntry, DefaultEntry, Entries, GroupEntry};
+use cs_decl::{CronEntry, DefaultEntry, Entries, GroupEntry};
 use cs_history::Mode;
 use cs_place::Place;
 use cs_plan::MAX_GROUPS;
@@ -45,21 +43,6 @@ pub(crate) fn brief_max(schedule: &Schedule, asked: u64) -> u64
     }
 }
 
-/// Whether the longest time is brief, or the sum of those of parts of these names.
-fn is_timed(asked: u64, when: &When, names: &[Bytes], entry: &CronEntry) -> bool
-    ensures { IsTrue result → IsTimed asked when.now names.now entry.now }
-{
-    match when {
-        When::Reboot => true,
-        When::At(schedule) if names.is_empty() => {
-            asked <= u64::from(MAX_GAP)
-                && entry.parts.is_empty()
-                && entry.max == i128::from(brief_max(schedule, asked))
-        }
-        When::At(_) => has_parts(names, entry),
-    }
-}
-
 /// Whether that longest time is a guess: the command's timeout(1) doesn't set it.
 pub(crate) fn is_guess(command: &[u8], max: i128) -> bool
     ensures { result ≡ is_guess command.now max }
@@ -72,27 +55,27 @@ pub(crate) fn is_guess(command: &[u8], max: i128) -> bool
 
 // ---- lines
 
-/// Whether the entry has the time that is given, or where none is, those of a new command, and is
-/// marked as a guess if the longest one is one.
-fn has_new_times(
-    given: Option<u64>,
-    asked: u64,
-    names: &[Bytes],
-    line: &Line,
-    entry: &CronEntry,
-) -> bool
-    ensures { IsTrue result → HasTimes given (HasNewTimes asked names.now line.now) entry.now }
+/// Whether the longest time is brief, or the sum of those of parts of these names, and is marked as a
+/// guess if it is one.
+fn has_new_times(asked: u64, names: &[Bytes], line: &Line, entry: &CronEntry) -> bool
+    ensures { IsTrue result → HasNewTimes asked names.now line.now entry.now }
 {
-    match given {
-        Some(max) => has_time(max, entry),
-        None => {
-            entry.guess == is_guess(line.command(), entry.max)
-                && is_timed(asked_for(asked, line.command()), line.when(), names, entry)
+    if entry.guess != is_guess(line.command(), entry.max) {
+        return false;
+    }
+    let asked = asked_for(asked, line.command());
+    match line.when() {
+        When::Reboot => true,
+        When::At(schedule) if names.is_empty() => {
+            asked <= u64::from(MAX_GAP)
+                && entry.parts.is_empty()
+                && entry.max == i128::from(brief_max(schedule, asked))
         }
+        When::At(_) => has_parts(names, entry),
     }
 }
 
-/// Whether the entry has the times of a new command, and weighs 1.
+/// Whether the entry has the time that is given, or where none is, those of a new command, and weighs 1.
 fn is_new_entry(
     asked: u64,
     given: &[Given],
@@ -102,26 +85,24 @@ fn is_new_entry(
 ) -> bool
     ensures { IsTrue result → IsNewEntry asked given.now names.now line.now entry.now }
 {
-    let time = time_of(given, line, names.is_empty(), entry.mode);
-    entry.weight == 1 && has_new_times(time, asked, names, line, entry)
-}
-
-/// Whether the entry has the time that is given, or where none is, that of the default, and no parts.
-fn has_default_time(given: Option<u64>, default: &DefaultEntry, entry: &CronEntry) -> bool
-    ensures { IsTrue result → HasTimes given (HasDefaultTime default.now) entry.now }
-{
-    match given {
-        Some(max) => has_time(max, entry),
-        None => entry.max == default.max && entry.parts.is_empty() && !entry.guess,
+    if entry.weight != 1 {
+        return false;
+    }
+    match time_of(given, line, names.is_empty(), entry.mode) {
+        Some(max) => has_time(i128::from(max), entry),
+        None => has_new_times(asked, names, line, entry),
     }
 }
 
-/// Whether the entry has such a time, and the weight of the default.
+/// Whether the entry has the time that is given, or where none is, that of the default, and its weight.
 fn has_default(given: &[Given], line: &Line, default: &DefaultEntry, entry: &CronEntry) -> bool
     ensures { IsTrue result → IsDefaultEntry given.now line.now default.now entry.now }
 {
-    let time = time_of(given, line, true, entry.mode);
-    entry.weight == default.weight && has_default_time(time, default, entry)
+    let max = match time_of(given, line, true, entry.mode) {
+        Some(max) => i128::from(max),
+        None => default.max,
+    };
+    entry.weight == default.weight && has_time(max, entry)
 }
 
 /// Whether the entry takes the lock, or none if there can be no group of the file's name.
@@ -164,7 +145,11 @@ fn is_added(
         × IsSomeAnd (option_map (λ e. e.now) entry.entry)
         (AreAlike given.now line.now names.now o)) }
 {
-    if follows(behind, given, names, line, entry) {
+    if let Some(old) = behind
+        && let Some(new) = entry
+        && may_follow(line, old)
+        && are_alike(given, line, names, old, new)
+    {
         return true;
     }
     match (default, entry) {
@@ -244,19 +229,6 @@ pub(crate) fn is_updated_line(
 
 // ---- anacron jobs and groups
 
-/// Whether the entry has the asked time, or that of its command, the least weight and no group, and
-/// is marked as a guess if it is one.
-fn is_new_job_entry(asked: u64, command: &[u8], entry: &AnacronEntry) -> bool
-    ensures { IsTrue result → (entry.now.weight ≡ pos 1) × (entry.now.group ≡ None)
-        × (entry.now.max ≡ pos (asked_for asked command.now))
-        × (entry.now.guess ≡ is_guess command.now entry.now.max) }
-{
-    entry.max == i128::from(asked_for(asked, command))
-        && entry.weight == 1
-        && entry.group.is_none()
-        && entry.guess == is_guess(command, entry.max)
-}
-
 /// Whether the anacron job keeps what its old entry declares, or is added.
 pub(crate) fn is_updated_job(old: &Entries, max: u64, new: &Entries, job: &Job) -> bool
     ensures { IsTrue result → IsUpdatedJob old.now max new.now job.now }
@@ -264,12 +236,22 @@ pub(crate) fn is_updated_job(old: &Entries, max: u64, new: &Entries, job: &Job) 
     let entry = job_entry(new, job.identifier());
     match (job_entry(old, job.identifier()), &old.default) {
         (Some(before), _) => match entry {
-            Some(entry) => are_alike_jobs(before, entry),
+            Some(entry) => {
+                entry.max == before.max
+                    && entry.weight == before.weight
+                    && entry.group == before.group
+                    && entry.guess == before.guess
+            }
             None => false,
         },
         (None, Some(_)) => entry.is_none(),
         (None, None) => match entry {
-            Some(entry) => is_new_job_entry(max, job.command(), entry),
+            Some(entry) => {
+                entry.max == i128::from(asked_for(max, job.command()))
+                    && entry.weight == 1
+                    && entry.group.is_none()
+                    && entry.guess == is_guess(job.command(), entry.max)
+            }
             None => false,
         },
     }

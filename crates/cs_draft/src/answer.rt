@@ -1,5 +1,5 @@
 //! The subcommand `draft`.
-ghost use Rattle.std.specs.Prelude.{◌≡◌, ◌≢◌, [], All, IfErr, IfOk, IfSome, IsNone, OnOk, option_map, true};
+ghost use Rattle.std.specs.Prelude.{◌≡◌, ◌≢◌, All, IfErr, IfOk, IfSome, IsNone, OnOk, option_map, true};
 ghost use Rattle.cs_args.specs.Asked.{asked_draft};
 ghost use Rattle.cs_plan.specs.Plain.{is_possible_max};
 ghost use Rattle.cs_io.specs.Files.{AreReadInTurn, IsFresh};
@@ -10,7 +10,7 @@ ghost use Rattle.cs_files.specs.Turn.{draft_paths, some_path};
 ghost use Rattle.cs_draft.specs.Answer.{FindsDraftable, IsRefused, PrintsDraft, PrintsUpdate, ReadsOld};
 ghost use Rattle.cs_draft.specs.Answer.{ReadsText, entries_in, is_line, updated};
 
-use crate::draft::{Drawing, draw_up, update};
+use crate::draft::{draw_up, update};
 use cs_args::{DraftWords, WordFault};
 use cs_civil::Bytes;
 use cs_crontab::Line;
@@ -20,14 +20,6 @@ use cs_io::{Inputs, Output};
 use cs_plan::is_possible_max;
 use cs_retrace::{Given, MaxFault, read_maxes};
 use std::alloc::{AllocError, Global};
-
-/// What is answered where no text passes.
-fn nothing_drawn(alloc: Global) -> Result<Response, AllocError>
-    ensures { IfOk result (λ r. (r.status ≡ 2) × (r.out ≡ [])) }
-{
-    let fault = b"no draft could be made".as_slice();
-    Response::fault(alloc, Status::Unknown, b"".as_slice(), fault)
-}
 
 /// What is answered of a line of a text of longest times that has a fault: `PATH line 3: ..`.
 fn refused(alloc: Global, path: &str, place: u64, reason: &str) -> Result<Response, AllocError>
@@ -173,24 +165,29 @@ fn show(
     found: &Draftable,
     given: &[Given],
 ) -> Result<Response, AllocError>
-    ensures printed { IfOk result (λ r. is_possible_max max ≡ true
-        → PrintsUpdate found.now.tables.crontab found.now.tables.jobs found.now.tables.places
-        (updated offset (option_map (λ p. p.0) found.now.old)) max given.now r) }
+    ensures printed { IfOk result
+        (PrintsUpdate found.now.tables.crontab found.now.tables.jobs found.now.tables.places
+        (updated offset (option_map (λ p. p.0) found.now.old)) max given.now) }
     ensures done { IfOk result (λ r. r.status ≢ 6) }
 {
     let (table, jobs) = (&found.tables.crontab, &found.tables.jobs);
     let places = found.tables.places.as_slice();
     let remarks = found.maxes.as_slice();
-    let drawing = match &found.old {
+    let drawn = match &found.old {
         Some((old, bytes)) => {
-            let bytes = bytes.as_slice();
-            update(alloc, table, jobs, places, old, bytes, max, given, remarks)?
+            let (old, bytes) = (old.entries(), bytes.as_slice());
+            update(
+                alloc, table, jobs, places, old, bytes, max, given, remarks, false,
+            )?
         }
         None => draw_up(alloc, table, jobs, places, max, given, remarks, offset)?,
     };
-    match drawing {
-        Drawing::Drawn(draft) => Ok(Response::done(draft.text.into_vec(), draft.warnings)),
-        _ => nothing_drawn(alloc),
+    match drawn {
+        Some((text, warnings)) => Ok(Response::done(text.into_vec(), warnings)),
+        None => {
+            let fault = b"no draft could be made".as_slice();
+            Response::fault(alloc, Status::Unknown, b"".as_slice(), fault)
+        }
     }
 }
 

@@ -47,21 +47,15 @@ fn is_fitting(
     }
 }
 
-fn are_all_bound(entries: &Entries, lines: &[Line]) -> bool
-    ensures bound { IsTrue result → All (λ e. IsBound lines.now e.name) entries.now.cron }
-    ensures left_out { IsTrue result → All (IsBound lines.now) entries.now.left_out }
-{
-    entries_are_bound(lines, entries.cron.as_slice())
-        && are_bound(lines, entries.left_out.as_slice())
-}
-
 /// Whether no object has a member twice, and the entries are bound to the commands of the lines.
 fn are_sound(entries: &Entries, lines: &[Line]) -> bool
     ensures once { IsTrue result → entries.now.doubled ≡ None }
     ensures bound { IsTrue result → All (λ e. IsBound lines.now e.name) entries.now.cron }
     ensures left_out { IsTrue result → All (IsBound lines.now) entries.now.left_out }
 {
-    entries.doubled.is_none() && are_all_bound(entries, lines)
+    entries_are_bound(lines, entries.cron.as_slice())
+        && are_bound(lines, entries.left_out.as_slice())
+        && entries.doubled.is_none()
 }
 
 fn are_updated_lines(

@@ -1,6 +1,6 @@
 //! The longest times that are given for the lines of a crontab.
-ghost use Rattle.std.specs.Prelude.{◌≡◌, [], IfSome, IsTrue, false, option_map, pos};
-ghost use Rattle.cs_draft.specs.Draft.{HasGiven, time_for, time_of};
+ghost use Rattle.std.specs.Prelude.{◌≡◌, [], IfSome, IsTrue, false, option_map};
+ghost use Rattle.cs_draft.specs.Draft.{HasGiven, time_of};
 
 use cs_command::time_limit;
 use cs_crontab::Line;
@@ -9,19 +9,8 @@ use cs_history::Mode;
 use cs_plan::MAX_MINUTES;
 use cs_retrace::{Given, max_of};
 
-/// The time with a minute more where a run may begin inside a minute, or what timeout(1) allows the
-/// command if that is more.
-fn time_for(command: &[u8], mode: Mode, max: u64) -> u64
-    ensures { result ≡ time_for command.now mode max }
-{
-    let max = max.saturating_add(if mode.waits() { 1 } else { 0 });
-    match time_limit(command) {
-        Some(limit) => limit.max(max),
-        None => max,
-    }
-}
-
-/// The longest time of a command of this mode as a whole, where one is given, and a job may have it.
+/// The longest time of a command of this mode as a whole, where one is given, and a job may have it: a
+/// minute more where a run may begin inside a minute, or what timeout(1) allows if that is more.
 pub(crate) fn time_of(given: &[Given], line: &Line, is_whole: bool, mode: Mode) -> Option<u64>
     ensures { result ≡ time_of given.now line.now is_whole mode }
 {
@@ -29,7 +18,11 @@ pub(crate) fn time_of(given: &[Given], line: &Line, is_whole: bool, mode: Mode) 
         return None;
     }
     let max = max_of(given, u64::from(line.number()))?;
-    let max = time_for(line.command(), mode, max);
+    let max = max.saturating_add(if mode.waits() { 1 } else { 0 });
+    let max = match time_limit(line.command()) {
+        Some(limit) => limit.max(max),
+        None => max,
+    };
     if max > u64::from(MAX_MINUTES) {
         return None;
     }
@@ -51,10 +44,10 @@ pub(crate) fn has_given(given: &[Given], line: &Line, entry: Option<&CronEntry>)
 }
 
 /// Whether the entry has that time, which is no guess, and no parts.
-pub(crate) fn has_time(max: u64, entry: &CronEntry) -> bool
-    ensures max { IsTrue result → entry.now.max ≡ pos max }
+pub(crate) fn has_time(max: i128, entry: &CronEntry) -> bool
+    ensures max { IsTrue result → entry.now.max ≡ max }
     ensures parts { IsTrue result → entry.now.parts ≡ [] }
     ensures guess { IsTrue result → entry.now.guess ≡ false }
 {
-    entry.max == i128::from(max) && entry.parts.is_empty() && !entry.guess
+    entry.max == max && entry.parts.is_empty() && !entry.guess
 }

@@ -12,7 +12,7 @@ use crate::parts::{keeps_times, parts_of};
 use cs_civil::Bytes;
 use cs_command::program_of;
 use cs_crontab::Line;
-use cs_decl::{AnacronEntry, CronEntry, Entries, GroupEntry, LineName, is_told_when};
+use cs_decl::{CronEntry, Entries, GroupEntry, LineName, is_told_when};
 use cs_place::Place;
 use cs_plan::is_reboot;
 use cs_retrace::Given;
@@ -23,7 +23,7 @@ fn has_times(given: Option<u64>, names: &[Bytes], old: &CronEntry, new: &CronEnt
     ensures { IsTrue result → HasTimes given (KeepsTimes names.now old.now) new.now }
 {
     match given {
-        Some(max) => has_time(max, new),
+        Some(max) => has_time(i128::from(max), new),
         None => keeps_times(names, old, new),
     }
 }
@@ -37,7 +37,7 @@ fn are_same_terms(old: &CronEntry, new: &CronEntry) -> bool
     old.weight == new.weight && old.group == new.group && old.mode == new.mode
 }
 
-fn are_alike(
+pub(crate) fn are_alike(
     given: &[Given],
     line: &Line,
     names: &[Bytes],
@@ -50,43 +50,17 @@ fn are_alike(
     are_same_terms(old, new) && has_times(time, names, old, new)
 }
 
-pub(crate) fn are_alike_jobs(old: &AnacronEntry, new: &AnacronEntry) -> bool
-    ensures max { IsTrue result → new.now.max ≡ old.now.max }
-    ensures weight { IsTrue result → new.now.weight ≡ old.now.weight }
-    ensures group { IsTrue result → new.now.group ≡ old.now.group }
-    ensures guess { IsTrue result → new.now.guess ≡ old.now.guess }
-{
-    old.max == new.max
-        && old.weight == new.weight
-        && old.group == new.group
-        && old.guess == new.guess
-}
-
 // ---- lines
-
-fn count_entries(timed: bool, entries: &[CronEntry], line: &Line) -> usize
-    ensures { result ≡ count_by (λ e. tells timed line.now e.name) entries.now }
-{
-    entries
-        .iter()
-        .filter(|entry| tells(timed, line, &entry.name))
-        .count()
-}
-
-fn count_names(timed: bool, names: &[LineName], line: &Line) -> usize
-    ensures { result ≡ count_by (tells timed line.now) names.now }
-{
-    names.iter().filter(|name| tells(timed, line, name)).count()
-}
 
 /// How many entries tell the command of the line; and its schedule, if that is asked for.
 #[tactic(auto, using(crate::proofs::Counts::counted))]
 fn times_told(timed: bool, entries: &Entries, line: &Line) -> usize
     ensures { result ≡ count_by (tells timed line.now) (names_of entries.now) }
 {
-    let cron = count_entries(timed, entries.cron.as_slice(), line);
-    let left_out = count_names(timed, entries.left_out.as_slice(), line);
-    cron + left_out
+    let (cron, names) = (entries.cron.as_slice(), entries.left_out.as_slice());
+    let entries = cron.iter().filter(|entry| tells(timed, line, &entry.name));
+    let left_out = names.iter().filter(|name| tells(timed, line, name));
+    entries.count() + left_out.count()
 }
 
 /// Whether no other line is like it, it isn't started at startup, and one entry alone tells it.
@@ -153,27 +127,6 @@ pub(crate) fn may_follow(line: &Line, old: &CronEntry) -> bool
     match (program_of(command.as_slice()), program_of(line.command())) {
         (Some(before), Some(program)) => {
             program == before && is_told_when(&old.name.when, line.when())
-        }
-        _ => false,
-    }
-}
-
-/// Whether the line has what the entry left behind declares, and may have it.
-pub(crate) fn follows(
-    behind: Option<&CronEntry>,
-    given: &[Given],
-    names: &[Bytes],
-    line: &Line,
-    entry: Option<&CronEntry>,
-) -> bool
-    ensures { IsTrue result → IsSomeAnd (option_map (λ e. e.now) behind.entry)
-        (λ o. (may_follow line.now o ≡ true)
-        × IsSomeAnd (option_map (λ e. e.now) entry.entry)
-        (AreAlike given.now line.now names.now o)) }
-{
-    match (behind, entry) {
-        (Some(old), Some(entry)) => {
-            may_follow(line, old) && are_alike(given, line, names, old, entry)
         }
         _ => false,
     }

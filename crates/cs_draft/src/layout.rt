@@ -1,17 +1,29 @@
 //! How declarations are laid out: one entry a line.
 
+use cs_civil::push_number;
 use serde_json::Value;
 use std::alloc::{AllocError, Global};
 
+pub(crate) type Done = Result<(), AllocError>;
+
+/// What stands between members, between parts and between the items of other lists.
+pub(crate) const COMMA: &str = ", ";
+
+/// What stands between the members of the outermost object.
+pub(crate) const LINE: &str = ",\n  ";
+
+/// What stands between entries.
+pub(crate) const ENTRY: &str = ",\n    ";
+
 /// The text of a value, with a blank behind each comma of a list.
-pub(crate) fn value_text(alloc: Global, value: &Value) -> Result<String, AllocError> {
+fn value_text(alloc: Global, value: &Value) -> Result<String, AllocError> {
     let Some(items) = value.as_array() else {
         return value.to_string(alloc);
     };
     let mut text = String::from_str(alloc, "[")?;
     for (i, item) in items.iter().enumerate() {
         if i > 0 {
-            text.push_str(", ")?;
+            text.push_str(COMMA)?;
         }
         text.push_str(item.to_string(alloc)?.as_str())?;
     }
@@ -19,88 +31,50 @@ pub(crate) fn value_text(alloc: Global, value: &Value) -> Result<String, AllocEr
     Ok(text)
 }
 
-/// The members of an object: each on a line of its own in the outermost one, and else all on one.
-#[derive(Drop)]
-pub(crate) struct Object {
-    alloc: Global,
-    members: String,
-    is_outermost: bool,
+/// Begins an object of a list, so far behind others if it has some.
+pub(crate) fn begin(text: &mut Vec<u8>, between: &str) -> Done {
+    if text.as_slice().ends_with(b"}") {
+        text.extend_from_slice(between.as_bytes())?;
+    }
+    text.extend_from_slice(b"{")
 }
 
-impl Object {
-    pub(crate) fn new(alloc: Global) -> Object {
-        Object {
-            alloc,
-            members: String::new(alloc),
-            is_outermost: false,
+/// Adds a member whose value has that text to an object, so far behind others if it has some.
+pub(crate) fn add(text: &mut Vec<u8>, between: &str, name: &str, value: &str) -> Done {
+    let so_far = text.as_slice();
+    if !so_far.ends_with(b"{") && !so_far.ends_with(b"{\n  ") {
+        text.extend_from_slice(between.as_bytes())?;
+    }
+    text.extend_from_slice(b"\"")?;
+    text.extend_from_slice(name.as_bytes())?;
+    text.extend_from_slice(b"\": ")?;
+    text.extend_from_slice(value.as_bytes())
+}
+
+/// Adds a member that is a whole number.
+pub(crate) fn add_number(alloc: Global, text: &mut Vec<u8>, name: &str, number: u64) -> Done {
+    add(text, COMMA, name, "")?;
+    push_number(alloc, text, u128::from(number))
+}
+
+/// Adds a member that is a text, in quotes, as JSON writes it.
+pub(crate) fn add_text(alloc: Global, text: &mut Vec<u8>, name: &str, value: &str) -> Done {
+    let value = Value::String(String::from_str(alloc, value)?);
+    add(text, COMMA, name, value.to_string(alloc)?.as_str())
+}
+
+/// Adds those of the named members that a value has.
+pub(crate) fn add_members(
+    alloc: Global,
+    text: &mut Vec<u8>,
+    between: &str,
+    value: &Value,
+    names: &[&str],
+) -> Done {
+    for name in names {
+        if let Some(member) = value.get(*name) {
+            add(text, between, *name, value_text(alloc, member)?.as_str())?;
         }
     }
-
-    pub(crate) fn outermost(alloc: Global) -> Object {
-        Object {
-            alloc,
-            members: String::new(alloc),
-            is_outermost: true,
-        }
-    }
-
-    /// Adds a member whose value has that text.
-    pub(crate) fn add(&mut self, name: &str, value: &str) -> Result<(), AllocError> {
-        if !self.members.is_empty() {
-            let between = if self.is_outermost { ",\n  " } else { ", " };
-            self.members.push_str(between)?;
-        }
-        self.members.push_str("\"")?;
-        self.members.push_str(name)?;
-        self.members.push_str("\": ")?;
-        self.members.push_str(value)
-    }
-
-    /// Adds a member that is a whole number.
-    pub(crate) fn add_number(&mut self, name: &str, number: u64) -> Result<(), AllocError> {
-        self.add(name, format!(in self.alloc; "{number}")?.as_str())
-    }
-
-    /// Adds a member that is a text, in quotes, as JSON writes it.
-    pub(crate) fn add_text(&mut self, name: &str, text: &str) -> Result<(), AllocError> {
-        let text = Value::String(String::from_str(self.alloc, text)?);
-        self.add(name, text.to_string(self.alloc)?.as_str())
-    }
-
-    /// Adds those of the named members that a value has.
-    pub(crate) fn add_members(&mut self, value: &Value, names: &[&str]) -> Result<(), AllocError> {
-        for name in names {
-            if let Some(member) = value.get(*name) {
-                self.add(*name, value_text(self.alloc, member)?.as_str())?;
-            }
-        }
-        Ok(())
-    }
-
-    /// Adds a member that is a list of objects: each on a line of its own in the outermost object.
-    pub(crate) fn add_list(&mut self, name: &str, objects: &[Object]) -> Result<(), AllocError> {
-        let (front, between, end) = if self.is_outermost {
-            ("[\n    ", ",\n    ", "\n  ]")
-        } else {
-            ("[", ", ", "]")
-        };
-        let mut text = String::from_str(self.alloc, front)?;
-        for (i, object) in objects.iter().enumerate() {
-            if i > 0 {
-                text.push_str(between)?;
-            }
-            text.push_str(object.text()?.as_str())?;
-        }
-        text.push_str(end)?;
-        self.add(name, text.as_str())
-    }
-
-    /// The text of the object.
-    pub(crate) fn text(&self) -> Result<String, AllocError> {
-        let (alloc, members) = (self.alloc, self.members.as_str());
-        if self.is_outermost {
-            return format!(in alloc; "{{\n  {members}\n}}\n");
-        }
-        format!(in alloc; "{{{members}}}")
-    }
+    Ok(())
 }

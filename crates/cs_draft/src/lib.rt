@@ -20,4 +20,3 @@ mod updated;
 mod warned;
 
 pub use answer::{Draftable, answer_draft, find_draftable};
-pub use draft::{Draft, Drawing, draw_up, update};

@@ -25,20 +25,14 @@ pub(crate) fn tells(timed: bool, line: &Line, name: &LineName) -> bool
         && (!timed || name.when.is_some() && is_told_when(&name.when, line.when()))
 }
 
-fn is_like(timed: bool, line: &Line, other: &Line) -> bool
-    ensures { result ≡ are_like timed line.now other.now }
-{
-    other.command() == line.command() && (!timed || is_same_when(line.when(), other.when()))
-}
-
 /// How many lines have the line's command; and its schedule, if that is asked for.
 pub(crate) fn count_like(timed: bool, lines: &[Line], line: &Line) -> usize
     ensures { result ≡ count_by (are_like timed line.now) lines.now }
 {
-    lines
-        .iter()
-        .filter(|other| is_like(timed, line, other))
-        .count()
+    let alike = lines.iter().filter(|other| {
+        other.command() == line.command() && (!timed || is_same_when(line.when(), other.when()))
+    });
+    alike.count()
 }
 
 pub(crate) fn is_left_out(entries: &Entries, line: &Line) -> bool

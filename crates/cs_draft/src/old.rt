@@ -1,10 +1,10 @@
 //! Declarations that are updated, as their JSON has them, and the lines that their entries are
 //! bound to.
 
-use crate::told::Told;
+use crate::layout::Done;
+use crate::told::tell_of;
 use cs_crontab::Line;
-use cs_decl::{Entries, LineName, PartEntry, is_told_when};
-use cs_history::Mode;
+use cs_decl::{CronEntry, Entries, LineName, is_told_when};
 use cs_plan::is_reboot;
 use serde_json::Value;
 use std::alloc::{AllocError, Global};
@@ -23,12 +23,8 @@ pub(crate) struct Old<'v> {
 pub(crate) struct Bound<'v> {
     pub(crate) value: &'v Value,
     pub(crate) name: &'v LineName,
-    /// Its parts; of an entry that leaves a line out there are none.
-    pub(crate) parts: &'v [PartEntry],
-    pub(crate) max: i128,
-    pub(crate) mode: Mode,
-    pub(crate) is_guess: bool,
-    pub(crate) is_left_out: bool,
+    /// What it declares; an entry that leaves a line out declares nothing.
+    pub(crate) entry: Option<&'v CronEntry>,
 }
 
 impl<'v> Bound<'v> {
@@ -53,51 +49,74 @@ pub(crate) fn text_of<'v>(value: &'v Value, name: &str) -> Option<&'v str> {
     value.get(name)?.as_str()
 }
 
-/// The entry at that place in a list tells no command.
-fn unbound(alloc: Global, told: &mut Told, list: &str, place: usize) -> Result<(), AllocError> {
-    let number = place.saturating_add(1);
-    told.note(format!(in alloc; "{list} {number} is not kept: it tells no command")?)
+/// The first of the items whose member of that name is the text.
+pub(crate) fn item_of<'v>(items: &'v [Value], name: &str, text: &[u8]) -> Option<&'v Value> {
+    for item in items {
+        if let Some(told) = text_of(item, name)
+            && told.as_bytes() == text
+        {
+            return Some(item);
+        }
+    }
+    None
+}
+
+/// Adds the entry at that place in a list, if it tells a command; if it doesn't, that is told.
+fn push_bound<'v>(
+    alloc: Global,
+    told: &mut Vec<u8>,
+    bound: &mut Vec<Bound<'v>>,
+    list: &str,
+    place: usize,
+    entry: Bound<'v>,
+) -> Done {
+    if entry.name.command.is_some() {
+        bound.push(entry)?;
+        return Ok(());
+    }
+    let number = place.saturating_add(1) as u64;
+    tell_of(
+        alloc,
+        told,
+        list,
+        number,
+        " is not kept: it tells no command",
+        "",
+        "",
+    )
 }
 
 /// The entries of the declarations that tell a command, in the order of the lines that they name.
 /// It is told of the others.
 pub(crate) fn bound_in<'v>(
     alloc: Global,
-    told: &mut Told,
+    told: &mut Vec<u8>,
     old: Old<'v>,
 ) -> Result<Vec<Bound<'v>>, AllocError> {
     let mut bound = Vec::new(alloc);
     let entries = old.entries.cron.as_slice().iter();
     for (i, (value, entry)) in items(old.value, "cron").iter().zip(entries).enumerate() {
-        if entry.name.command.is_none() {
-            unbound(alloc, told, "cron", i)?;
-            continue;
-        }
-        bound.push(Bound {
-            value,
-            name: &entry.name,
-            parts: entry.parts.as_slice(),
-            max: entry.max,
-            mode: entry.mode,
-            is_guess: entry.guess,
-            is_left_out: false,
-        })?;
+        let (name, entry) = (&entry.name, Some(entry));
+        push_bound(
+            alloc,
+            told,
+            &mut bound,
+            "note: cron ",
+            i,
+            Bound { value, name, entry },
+        )?;
     }
     let names = old.entries.left_out.as_slice().iter();
     for (i, (value, name)) in items(old.value, "left_out").iter().zip(names).enumerate() {
-        if name.command.is_none() {
-            unbound(alloc, told, "left_out", i)?;
-            continue;
-        }
-        bound.push(Bound {
-            value,
-            name,
-            parts: &[],
-            max: 0,
-            mode: Mode::Plain,
-            is_guess: false,
-            is_left_out: true,
-        })?;
+        let entry = None;
+        push_bound(
+            alloc,
+            told,
+            &mut bound,
+            "note: left_out ",
+            i,
+            Bound { value, name, entry },
+        )?;
     }
     bound.sort_by_key(|entry| entry.name.number)?;
     Ok(bound)
@@ -110,6 +129,26 @@ pub(crate) fn bound_in<'v>(
 pub(crate) struct Pair {
     pub(crate) line: usize,
     pub(crate) entry: usize,
+}
+
+/// The place of the entry of the line at that place, if it has one.
+pub(crate) fn entry_at(pairs: &[Pair], line: usize) -> Option<usize> {
+    for pair in pairs {
+        if pair.line == line {
+            return Some(pair.entry);
+        }
+    }
+    None
+}
+
+/// Whether a line has the entry at that place.
+pub(crate) fn has_line(pairs: &[Pair], entry: usize) -> bool {
+    for pair in pairs {
+        if pair.entry == entry {
+            return true;
+        }
+    }
+    false
 }
 
 /// What an entry tells of the schedule of a line with its command.
@@ -129,10 +168,11 @@ fn fits(tells: Tells, entry: &Bound<'_>, line: &Line, has_reboot: bool) -> bool 
         Tells::None => when.is_none(),
         Tells::Other => when.is_some(),
     };
+    let is_left_out = entry.entry.is_none();
     let can_be = if is_reboot(line) {
-        entry.is_left_out
+        is_left_out
     } else {
-        !(entry.is_left_out && has_reboot)
+        !(is_left_out && has_reboot)
     };
     is_told && can_be && entry.command() == line.command()
 }
@@ -152,7 +192,7 @@ fn owner_of(
     let mut owner = None;
     let mut entries = 0usize;
     for (i, entry) in bound.iter().enumerate() {
-        if fits(tells, entry, line, has_reboot) && !pairs.iter().any(|pair| pair.entry == i) {
+        if fits(tells, entry, line, has_reboot) && !has_line(pairs, i) {
             owner = owner.or(Some(i));
             entries = entries.saturating_add(1);
         }
@@ -160,7 +200,7 @@ fn owner_of(
     let entry = bound.get(owner?)?;
     let mut count = 0usize;
     for (i, other) in lines.iter().enumerate() {
-        if fits(tells, entry, other, has_reboot) && !pairs.iter().any(|pair| pair.line == i) {
+        if fits(tells, entry, other, has_reboot) && entry_at(pairs, i).is_none() {
             count = count.saturating_add(1);
         }
     }
@@ -181,7 +221,7 @@ pub(crate) fn pairs_of(
     let mut pairs: Vec<Pair> = Vec::new(alloc);
     for tells in [Tells::This, Tells::None, Tells::Other] {
         for (place, line) in lines.iter().enumerate() {
-            if pairs.iter().any(|pair| pair.line == place) {
+            if entry_at(pairs.as_slice(), place).is_some() {
                 continue;
             }
             if let Some(entry) = owner_of(tells, bound, lines, pairs.as_slice(), line) {

@@ -1,7 +1,9 @@
 //! The text of a schedule, as entries tell it.
 
+use crate::layout::Done;
+use cs_civil::push_number;
 use cs_crontab::{Field, Part, When};
-use std::alloc::{AllocError, Global};
+use std::alloc::Global;
 
 /// A step with which `*` stands for the first number of any field alone.
 const FIRST_ALONE: u8 = 60;
@@ -33,35 +35,27 @@ fn step_of(field: &Field, part: Part) -> u8 {
 }
 
 /// Adds a range of numbers behind a text.
-fn push_range(
-    alloc: Global,
-    text: &mut String,
-    front: &str,
-    first: u8,
-    last: u8,
-) -> Result<(), AllocError> {
-    text.push_str(front)?;
+fn push_range(alloc: Global, text: &mut Vec<u8>, front: &[u8], first: u8, last: u8) -> Done {
+    text.extend_from_slice(front)?;
+    push_number(alloc, text, u128::from(first))?;
     if first < last {
-        return text.push_str(format!(in alloc; "{first}-{last}")?.as_str());
+        text.extend_from_slice(b"-")?;
+        push_number(alloc, text, u128::from(last))?;
     }
-    text.push_str(format!(in alloc; "{first}")?.as_str())
+    Ok(())
 }
 
 /// Adds the field: `*` with a step, if it begins with `*`, and ranges of all other numbers.
-fn push_field(
-    alloc: Global,
-    text: &mut String,
-    field: &Field,
-    part: Part,
-) -> Result<(), AllocError> {
-    let mut front = "";
+fn push_field(alloc: Global, text: &mut Vec<u8>, field: &Field, part: Part) -> Done {
+    let mut front = b"".as_slice();
     let mut step = 0;
     if field.begins_with_star() {
         step = step_of(field, part);
-        front = ",";
-        text.push_str("*")?;
+        front = b",";
+        text.extend_from_slice(b"*")?;
         if step > 1 {
-            text.push_str(format!(in alloc; "/{step}")?.as_str())?;
+            text.extend_from_slice(b"/")?;
+            push_number(alloc, text, u128::from(step))?;
         }
     }
     let mut from = None;
@@ -70,7 +64,7 @@ fn push_field(
             (None, true) => from = Some(number),
             (Some(first), false) => {
                 push_range(alloc, text, front, first, number.saturating_sub(1))?;
-                front = ",";
+                front = b",";
                 from = None;
             }
             _ => {}
@@ -79,17 +73,16 @@ fn push_field(
     Ok(())
 }
 
-/// Five fields, or `@reboot`.
-pub(crate) fn schedule_text(alloc: Global, when: &When) -> Result<String, AllocError> {
+/// Adds five fields, or `@reboot`.
+pub(crate) fn push_schedule(alloc: Global, text: &mut Vec<u8>, when: &When) -> Done {
     let When::At(schedule) = when else {
-        return String::from_str(alloc, "@reboot");
+        return text.extend_from_slice(b"@reboot");
     };
-    let mut text = String::new(alloc);
     for part in [Part::Minute, Part::Hour, Part::Dom, Part::Month, Part::Dow] {
         if part != Part::Minute {
-            text.push_str(" ")?;
+            text.extend_from_slice(b" ")?;
         }
-        push_field(alloc, &mut text, schedule.field(part), part)?;
+        push_field(alloc, text, schedule.field(part), part)?;
     }
-    Ok(text)
+    Ok(())
 }

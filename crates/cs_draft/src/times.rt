@@ -1,94 +1,100 @@
 //! The longest times of entries and of their parts, as they are laid out.
 
 use crate::added::{brief_max, is_guess};
-use crate::layout::Object;
-use crate::old::{Bound, items, text_of};
-use crate::parts::{all_are_parts, part_of};
+use crate::layout::{COMMA, Done, add, add_members, add_number, add_text, begin};
+use crate::old::{item_of, items};
+use crate::parts::part_of;
 use cs_civil::Bytes;
 use cs_command::asked_for;
 use cs_decl::PartEntry;
 use cs_plan::MAX_MINUTES;
 use cs_schedule::Schedule;
 use serde_json::Value;
-use std::alloc::{AllocError, Global};
+use std::alloc::Global;
 
 const MOST: u128 = MAX_MINUTES as u128;
 
-fn new_part(alloc: Global, name: &[u8], share: u64) -> Result<Object, AllocError> {
-    let mut part = Object::new(alloc);
-    // the names that comments of a table tell are ASCII
-    if let Ok(name) = str::from_utf8(name) {
-        part.add_text("name", name)?;
+/// Adds a part: as it was, or one of that name with that longest time.
+fn add_part(
+    alloc: Global,
+    entry: &mut Vec<u8>,
+    old: Option<&Value>,
+    name: &[u8],
+    share: u64,
+) -> Done {
+    begin(entry, COMMA)?;
+    if let Some(old) = old {
+        add_members(alloc, entry, COMMA, old, ["name", "max", "note"].as_slice())?;
+    } else {
+        // the names that comments of a table tell are ASCII
+        add_text(alloc, entry, "name", str::from_utf8(name).unwrap_or(""))?;
+        add_number(alloc, entry, "max", share)?;
     }
-    part.add_number("max", share)?;
-    Ok(part)
+    entry.extend_from_slice(b"}")
 }
 
-fn old_part(alloc: Global, old: &Value) -> Result<Object, AllocError> {
-    let mut part = Object::new(alloc);
-    part.add_members(old, ["name", "max", "note"].as_slice())?;
-    Ok(part)
+/// Adds parts of those names, of which the new ones have that longest time and the others are as they
+/// were.
+pub(crate) fn add_parts(
+    alloc: Global,
+    entry: &mut Vec<u8>,
+    old: &[Value],
+    names: &[Bytes],
+    share: u64,
+) -> Done {
+    add(entry, COMMA, "parts", "[")?;
+    for name in names {
+        let name = name.as_slice();
+        add_part(alloc, entry, item_of(old, "name", name), name, share)?;
+    }
+    entry.extend_from_slice(b"]")
 }
 
 /// Adds the longest time of an entry in minutes, and whether it is a guess.
-pub(crate) fn add_max(entry: &mut Object, max: u64, is_guess: bool) -> Result<(), AllocError> {
-    entry.add_number("max", max)?;
+pub(crate) fn add_max(alloc: Global, entry: &mut Vec<u8>, max: u64, is_guess: bool) -> Done {
+    add_number(alloc, entry, "max", max)?;
     if is_guess {
-        entry.add("guess", "true")?;
+        add(entry, COMMA, "guess", "true")?;
     }
     Ok(())
 }
 
-/// The longest time of each of so many parts of a new command in minutes: an equal share of a time
+/// Adds the longest time of a new command in minutes, and its parts: each has an equal share of a time
 /// that is brief, but at least one minute.
-fn share_of(schedule: &Schedule, asked: u64, count: u64) -> u64 {
-    let all = asked.saturating_mul(count).min(u64::from(MAX_MINUTES));
-    match brief_max(schedule, all).checked_div(count) {
-        Some(share) => share.max(1),
-        None => 1,
-    }
-}
-
-/// Adds the longest time of a new command in minutes, and its parts.
 pub(crate) fn add_new_times(
     alloc: Global,
-    entry: &mut Object,
+    entry: &mut Vec<u8>,
     command: &[u8],
     schedule: &Schedule,
     asked: u64,
     names: &[Bytes],
-) -> Result<(), AllocError> {
+) -> Done {
     let asked = asked_for(asked, command);
-    if names.is_empty() {
-        let max = brief_max(schedule, asked);
-        return add_max(entry, max, is_guess(command, i128::from(max)));
-    }
-    let count = names.len() as u64;
-    let share = share_of(schedule, asked, count);
+    let count = (names.len() as u64).max(1);
+    let all = asked.saturating_mul(count).min(u64::from(MAX_MINUTES));
+    let share = brief_max(schedule, all)
+        .checked_div(count)
+        .unwrap_or(1)
+        .max(1);
     let max = share.saturating_mul(count);
-    add_max(entry, max, is_guess(command, i128::from(max)))?;
-    let mut parts = Vec::new(alloc);
-    for name in names {
-        parts.push(new_part(alloc, name.as_slice(), share)?)?;
+    add_max(alloc, entry, max, is_guess(command, i128::from(max)))?;
+    if names.is_empty() {
+        return Ok(());
     }
-    entry.add_list("parts", parts.as_slice())
+    add_parts(alloc, entry, &[], names, share)
 }
 
 /// Adds the longest time of an old entry, and its parts.
-pub(crate) fn add_old_times(
-    alloc: Global,
-    entry: &mut Object,
-    old: &Value,
-) -> Result<(), AllocError> {
-    entry.add_members(old, ["max", "guess"].as_slice())?;
+pub(crate) fn add_old_times(alloc: Global, entry: &mut Vec<u8>, old: &Value) -> Done {
+    add_members(alloc, entry, COMMA, old, ["max", "guess"].as_slice())?;
     if old.get("parts").is_none() {
         return Ok(());
     }
-    let mut parts = Vec::new(alloc);
+    add(entry, COMMA, "parts", "[")?;
     for part in items(old, "parts") {
-        parts.push(old_part(alloc, part)?)?;
+        add_part(alloc, entry, Some(part), &[], 0)?;
     }
-    entry.add_list("parts", parts.as_slice())
+    entry.extend_from_slice(b"]")
 }
 
 /// The longest time of the new ones among parts of those names, which is the asked one or as many
@@ -109,32 +115,4 @@ pub(crate) fn room_for(asked: u64, old: &[PartEntry], names: &[Bytes]) -> Option
     }
     let all = kept.saturating_add(share.saturating_mul(new)).min(MOST);
     Some((share as u64, all as u64))
-}
-
-/// The old part of that name, as its JSON has it.
-fn part_in<'v>(old: &'v Value, name: &[u8]) -> Option<&'v Value> {
-    items(old, "parts").iter().find(|part| text_of(part, "name").map(str::as_bytes) == Some(name))
-}
-
-/// Adds parts of those names, of which the new ones have that longest time and the others are as in
-/// an old entry, and that of all.
-pub(crate) fn add_renewed_times(
-    alloc: Global,
-    entry: &mut Object,
-    (share, all): (u64, u64),
-    old: Bound<'_>,
-    names: &[Bytes],
-) -> Result<(), AllocError> {
-    let is_guess = old.is_guess || !all_are_parts(names, old.parts);
-    add_max(entry, all, is_guess)?;
-    let mut parts = Vec::new(alloc);
-    for name in names {
-        let name = name.as_slice();
-        let part = match part_in(old.value, name) {
-            Some(part) => old_part(alloc, part)?,
-            None => new_part(alloc, name, share)?,
-        };
-        parts.push(part)?;
-    }
-    entry.add_list("parts", parts.as_slice())
 }

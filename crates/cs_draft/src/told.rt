@@ -1,7 +1,8 @@
-//! What an operator has to know of a draft, as it is gathered.
+//! What an operator has to know of a draft, a line each, in the order in which it is told.
 ghost use Rattle.std.specs.Prelude.{◌≡◌, IfOk};
 ghost use Rattle.cs_draft.specs.Draft.{warning_of};
 
+use crate::layout::Done;
 use cs_civil::push_number;
 use cs_place::push_shown;
 use cs_table::text::first_line;
@@ -25,57 +26,60 @@ pub(crate) fn warning_of(alloc: Global, table: &[u8], number: u32) -> Result<Vec
     Ok(text)
 }
 
-/// Warnings and notes, a line each, in the order in which they are told.
-#[derive(Drop)]
-pub(crate) struct Told {
-    pub(crate) text: Vec<u8>,
+/// Tells what these texts are together.
+pub(crate) fn tell(told: &mut Vec<u8>, front: &str, shown: &str, end: &str) -> Done {
+    told.extend_from_slice(front.as_bytes())?;
+    told.extend_from_slice(shown.as_bytes())?;
+    told.extend_from_slice(end.as_bytes())?;
+    told.extend_from_slice(b"\n")
 }
 
-impl Told {
-    pub(crate) fn new(alloc: Global) -> Told {
-        Told {
-            text: Vec::new(alloc),
+/// Tells the same of a line, or of an entry, whose number stands behind the first text.
+pub(crate) fn tell_of(
+    alloc: Global,
+    told: &mut Vec<u8>,
+    front: &str,
+    number: u64,
+    behind: &str,
+    shown: &str,
+    end: &str,
+) -> Done {
+    told.extend_from_slice(front.as_bytes())?;
+    push_number(alloc, told, u128::from(number))?;
+    tell(told, behind, shown, end)
+}
+
+/// Warns of what the command on that line of that table has.
+pub(crate) fn warn(
+    alloc: Global,
+    told: &mut Vec<u8>,
+    table: &str,
+    number: u32,
+    what: &str,
+) -> Done {
+    let front = "warning: the command on line ";
+    tell_of(
+        alloc,
+        told,
+        front,
+        u64::from(number),
+        " of the ",
+        table,
+        what,
+    )
+}
+
+/// Passes on what the comments of a text of longest times warn of.
+pub(crate) fn remark(told: &mut Vec<u8>, remarks: &[u8]) -> Done {
+    let mut rest = remarks;
+    while !rest.is_empty() {
+        let (line, behind) = first_line(rest);
+        if let Some(warning) = line.strip_prefix(b"# warning: ".as_slice()) {
+            told.extend_from_slice(b"warning: ")?;
+            push_shown(told, warning)?;
+            told.extend_from_slice(b"\n")?;
         }
+        rest = behind;
     }
-
-    fn tell(&mut self, front: &[u8], text: &[u8]) -> Result<(), AllocError> {
-        self.text.extend_from_slice(front)?;
-        self.text.extend_from_slice(text)?;
-        self.text.extend_from_slice(b"\n")
-    }
-
-    pub(crate) fn note(&mut self, note: String) -> Result<(), AllocError> {
-        self.tell(b"note: ", note.as_bytes())
-    }
-
-    pub(crate) fn warn(&mut self, warning: String) -> Result<(), AllocError> {
-        self.tell(b"warning: ", warning.as_bytes())
-    }
-
-    /// Passes on what the comments of a text of longest times warn of.
-    pub(crate) fn remark(&mut self, remarks: &[u8]) -> Result<(), AllocError> {
-        let mut rest = remarks;
-        while !rest.is_empty() {
-            let (line, behind) = first_line(rest);
-            if let Some(warning) = line.strip_prefix(b"# warning: ".as_slice()) {
-                self.text.extend_from_slice(b"warning: ")?;
-                push_shown(&mut self.text, warning)?;
-                self.text.extend_from_slice(b"\n")?;
-            }
-            rest = behind;
-        }
-        Ok(())
-    }
-
-    /// The command on that line of that table may take a lock that isn't declared.
-    pub(crate) fn unlocked(
-        &mut self,
-        alloc: Global,
-        table: &str,
-        number: u32,
-        reason: &str,
-    ) -> Result<(), AllocError> {
-        let front = warning_of(alloc, table.as_bytes(), number)?;
-        self.tell(front.as_slice(), reason.as_bytes())
-    }
+    Ok(())
 }

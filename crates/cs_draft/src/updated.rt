@@ -2,23 +2,34 @@
 
 use crate::added::is_locked;
 use crate::kept::{is_new, left_behind, may_follow};
-use crate::layout::Object;
+use crate::layout::{COMMA, Done, ENTRY, LINE, add, add_members, add_text, begin};
 use crate::names::is_text;
-use crate::old::{Bound, Old, Pair, bound_in, items, pairs_of, text_of};
-use crate::sheet::Sheet;
-use crate::told::Told;
+use crate::old::{
+    Bound, Old, Pair, bound_in, entry_at, has_line, item_of, items, pairs_of, text_of,
+};
+use crate::sheet::{Asked, add_kept, add_new, leave_out, tell_times};
+use crate::times::add_max;
+use crate::told::{ANACRONTAB, CRONTAB, remark, tell, tell_of, warn};
 use cs_anacrontab::{Anacrontab, Job};
-use cs_command::own_lock;
-use cs_crontab::{Crontab, Line, When};
+use cs_command::{Lock, asked_for, lock_of, names_lock, own_lock, time_limit};
+use cs_crontab::{Line, When};
 use cs_decl::Entries;
 use cs_diagnostics::shown;
-use cs_place::Place;
-use cs_retrace::Given;
+use cs_history::Mode;
+use cs_plan::MAX_GROUPS;
+use cs_retrace::max_of;
 use cs_schedule::Schedule;
 use serde_json::Value;
 use std::alloc::{AllocError, Global};
 
-type Done = Result<(), AllocError>;
+/// Why a command that names a program that locks files is declared without a lock.
+const UNREAD: &str =
+    " is declared without a lock: if it holds the lock of /run/x as long as it runs, \
+    add \"group\": \"/run/x\", \"mode\": \"try\" to its entry, \
+    and {\"name\": \"/run/x\", \"exclusive\": true} to \"groups\"";
+
+/// Why one is that would need another group.
+const FULL: &str = " is declared without a lock: its lock file would be group 65 of at most 64";
 
 /// The line that is new and the entry left behind, if the line may have that, and takes its lock.
 fn follower_of(
@@ -36,226 +47,354 @@ fn follower_of(
             if is_locked(&[], &lock, behind) {
                 let command = &behind.name.command;
                 let mut entries = bound.iter();
-                let entry = entries.position(|entry| is_text(entry.command(), command));
-                return Ok(entry.map(|entry| Pair { line: place, entry }));
+                return match entries.position(|entry| is_text(entry.command(), command)) {
+                    Some(entry) => Ok(Some(Pair { line: place, entry })),
+                    None => Ok(None),
+                };
             }
         }
     }
     Ok(None)
 }
 
-/// Declarations as they are updated.
+/// The entries so far, the names of the groups, in order of first use, what is told, and how many jobs
+/// have the default.
 #[derive(Drop)]
-struct Update<'a> {
-    sheet: Sheet<'a>,
-    /// The old entries that tell a command, and those that a line has.
-    bound: Vec<Bound<'a>>,
-    pairs: Vec<Pair>,
-    default: Option<&'a Value>,
-    /// How many jobs have the default.
-    defaulted: usize,
-    is_draft: bool,
+struct Sheet {
+    names: Vec<String>,
+    groups: Vec<u8>,
+    cron: Vec<u8>,
+    anacron: Vec<u8>,
+    left_out: Vec<u8>,
+    told: Vec<u8>,
+    defaulted: u64,
 }
 
-impl<'a> Update<'a> {
-    fn of(
+/// Adds the groups as they were declared.
+fn add_groups(alloc: Global, names: &mut Vec<String>, groups: &mut Vec<u8>, old: &Value) -> Done {
+    for group in items(old, "groups") {
+        if let Some(name) = text_of(group, "name") {
+            begin(groups, ENTRY)?;
+            let members = ["name", "exclusive", "note"];
+            add_members(alloc, groups, COMMA, group, members.as_slice())?;
+            groups.extend_from_slice(b"}")?;
+            names.push(String::from_str(alloc, name)?)?;
+        }
+    }
+    Ok(())
+}
+
+/// Whether the file has a group now.
+fn takes(
+    alloc: Global,
+    names: &mut Vec<String>,
+    groups: &mut Vec<u8>,
+    file: &str,
+) -> Result<bool, AllocError> {
+    for name in names.iter() {
+        if name.as_str() == file {
+            return Ok(true);
+        }
+    }
+    if names.len() >= MAX_GROUPS {
+        return Ok(false);
+    }
+    begin(groups, ENTRY)?;
+    add_text(alloc, groups, "name", file)?;
+    add(groups, COMMA, "exclusive", "true")?;
+    groups.extend_from_slice(b"}")?;
+    names.push(String::from_str(alloc, file)?)?;
+    Ok(true)
+}
+
+impl Sheet {
+    /// Adds a line that has no old entry, whose command takes a lock or none, in that group, or tells why
+    /// in none. Where there is a default, it has no entry, unless it has a lock or a longest time of its
+    /// own.
+    fn add_locked(
+        &mut self,
         alloc: Global,
-        lines: &'a [Line],
-        places: &'a [Place],
-        old: Old<'a>,
-        max: u64,
-        given: &'a [Given],
-    ) -> Result<Update<'a>, AllocError> {
-        let mut sheet = Sheet::new(alloc, lines, places, max, given);
-        for group in items(old.value, "groups") {
-            if let Some(name) = text_of(group, "name") {
-                sheet.add_group(name, group)?;
+        asked: Asked<'_>,
+        old: Old<'_>,
+        line: &Line,
+        schedule: &Schedule,
+        is_locked: bool,
+        group: Option<(&str, Mode)>,
+        reason: &str,
+    ) -> Done {
+        let (number, command) = (line.number(), line.command());
+        let default = old.value.get("default");
+        let is_own = is_locked || max_of(asked.given, u64::from(number)).is_some();
+        if default.is_none() || is_own {
+            if !old.is_draft {
+                let command = shown(alloc, command)?;
+                let (number, what) = (u64::from(number), " is new: ");
+                let (told, command) = (&mut self.told, command.as_str());
+                tell_of(alloc, told, "note: line ", number, what, command, "")?;
             }
-        }
-        let bound = bound_in(alloc, &mut sheet.told, old)?;
-        let mut pairs = pairs_of(alloc, bound.as_slice(), lines)?;
-        if let Some(pair) = follower_of(alloc, bound.as_slice(), lines, old.entries)? {
-            pairs.push(pair)?;
-        }
-        Ok(Update {
-            sheet,
-            bound,
-            pairs,
-            default: old.value.get("default"),
-            defaulted: 0,
-            is_draft: old.is_draft,
-        })
-    }
-
-    /// The old entry of the line at a place.
-    fn entry_at(&self, place: usize) -> Option<Bound<'a>> {
-        let pair = self.pairs.iter().find(|pair| pair.line == place)?;
-        self.bound.get(pair.entry).copied()
-    }
-
-    /// Adds a line that has none. Where there is a default, it has no entry, unless its command takes
-    /// a lock.
-    fn add_new(&mut self, line: &'a Line, schedule: &Schedule) -> Done {
-        let alloc = self.sheet.alloc;
-        let has_default = self.default.is_some() && self.sheet.given_for(line).is_none();
-        if has_default && own_lock(alloc, line.command())?.is_none() {
+            let (cron, told) = (&mut self.cron, &mut self.told);
+            add_new(alloc, cron, told, asked, line, schedule, default, group)?;
+        } else {
             self.defaulted = self.defaulted.saturating_add(1);
-            return self.sheet.tell_line(line);
         }
-        if !self.is_draft {
-            let (number, command) = (line.number(), shown(alloc, line.command())?);
-            let note = format!(in alloc; "line {number} is new: {command}")?;
-            self.sheet.told.note(note)?;
+        if reason.is_empty() {
+            return Ok(());
         }
-        self.sheet.add_new(line, schedule, self.default)
+        warn(alloc, &mut self.told, CRONTAB, number, reason)
     }
 
-    fn add_line(&mut self, place: usize, line: &'a Line) -> Done {
-        let alloc = self.sheet.alloc;
-        let number = line.number();
-        match (line.when(), self.entry_at(place)) {
-            (When::Reboot, entry) => {
-                self.sheet.told.warn(format!(in alloc;
-                    "@reboot on line {number} of the crontab is left out: no plan has startup jobs"
-                )?)?;
-                self.sheet.leave_out(line, entry)
-            }
-            (When::At(_), Some(old)) if old.is_left_out => {
-                let note = format!(in alloc; "line {number} is left out of the plan")?;
-                self.sheet.told.note(note)?;
-                self.sheet.leave_out(line, Some(old))
-            }
-            (When::At(_), Some(old)) => {
-                if old.command() != line.command() {
-                    let command = shown(alloc, old.command())?;
-                    self.sheet.told.note(format!(in alloc;
-                        "the command on line {number} changed; its entry keeps the longest time \
-                         of {command}"
-                    )?)?;
+    /// Adds a line that has no old entry, by the lock of its command.
+    fn add_new(
+        &mut self,
+        alloc: Global,
+        asked: Asked<'_>,
+        old: Old<'_>,
+        line: &Line,
+        schedule: &Schedule,
+    ) -> Done {
+        match lock_of(alloc, line.command())? {
+            Lock::Absent => self.add_locked(alloc, asked, old, line, schedule, false, None, ""),
+            Lock::Unread => self.add_locked(alloc, asked, old, line, schedule, false, None, UNREAD),
+            Lock::Of(file, mode) => {
+                // plain words are ASCII
+                let file = str::from_utf8(file.as_slice()).unwrap_or("");
+                if takes(alloc, &mut self.names, &mut self.groups, file)? {
+                    let group = Some((file, mode));
+                    return self.add_locked(alloc, asked, old, line, schedule, true, group, "");
                 }
-                self.sheet.add_kept(line, old)
+                self.add_locked(alloc, asked, old, line, schedule, true, None, FULL)
             }
-            (When::At(schedule), None) => self.add_new(line, schedule),
         }
     }
 
-    /// Tells of the old entries that no line has.
-    fn tell_gone(&mut self) -> Done {
-        let alloc = self.sheet.alloc;
-        for (i, entry) in self.bound.iter().enumerate() {
-            if !self.pairs.iter().any(|pair| pair.entry == i) {
-                let command = shown(alloc, entry.command())?;
-                self.sheet.told.note(format!(in alloc; "gone: {command}")?)?;
+    fn add_line(
+        &mut self,
+        alloc: Global,
+        asked: Asked<'_>,
+        old: Old<'_>,
+        line: &Line,
+        bound: Option<Bound<'_>>,
+    ) -> Done {
+        let number = u64::from(line.number());
+        let (front, what) = match (line.when(), bound) {
+            (When::At(schedule), None) => {
+                return self.add_new(alloc, asked, old, line, schedule);
             }
+            (When::At(_), Some(bound)) => {
+                if let Some(entry) = bound.entry {
+                    return add_kept(
+                        alloc,
+                        &mut self.cron,
+                        &mut self.told,
+                        asked,
+                        line,
+                        bound,
+                        entry,
+                    );
+                }
+                ("note: line ", " is left out of the plan")
+            }
+            (When::Reboot, _) => {
+                let what = " of the crontab is left out: no plan has startup jobs";
+                ("warning: @reboot on line ", what)
+            }
+        };
+        tell_of(alloc, &mut self.told, front, number, what, "", "")?;
+        leave_out(
+            alloc,
+            &mut self.left_out,
+            &mut self.told,
+            asked.lines,
+            line,
+            bound,
+        )
+    }
+
+    fn add_lines(
+        &mut self,
+        alloc: Global,
+        asked: Asked<'_>,
+        old: Old<'_>,
+        bound: &[Bound<'_>],
+        pairs: &[Pair],
+    ) -> Done {
+        for (place, line) in asked.lines.iter().enumerate() {
+            let entry = match entry_at(pairs, place) {
+                Some(entry) => bound.get(entry).copied(),
+                None => None,
+            };
+            self.add_line(alloc, asked, old, line, entry)?;
         }
         Ok(())
     }
 
     /// Adds an anacron job: as it was declared, or as a new one, unless there is a default.
-    fn add_job(&mut self, old: &Value, job: &Job, identifier: &str) -> Done {
-        let mut entries = items(old, "anacron").iter();
-        let entry = entries.find(|entry| text_of(entry, "id") == Some(identifier));
-        if entry.is_none() && self.default.is_some() {
+    fn add_job(
+        &mut self,
+        alloc: Global,
+        max: u64,
+        old: Old<'_>,
+        job: &Job,
+        identifier: &str,
+    ) -> Done {
+        let entry = item_of(items(old.value, "anacron"), "id", identifier.as_bytes());
+        let command = job.command();
+        if entry.is_some() || old.value.get("default").is_none() {
+            begin(&mut self.anacron, ENTRY)?;
+            add_text(alloc, &mut self.anacron, "id", identifier)?;
+            match entry {
+                Some(old) => {
+                    let names = ["max", "guess", "weight", "group", "note"];
+                    add_members(alloc, &mut self.anacron, COMMA, old, names.as_slice())?;
+                }
+                None => {
+                    if !old.is_draft {
+                        let job = shown(alloc, identifier.as_bytes())?;
+                        tell(&mut self.told, "note: job ", job.as_str(), " is new")?;
+                    }
+                    let max = asked_for(max, command);
+                    add_max(alloc, &mut self.anacron, max, time_limit(command).is_none())?;
+                    tell_times(alloc, &mut self.told, ANACRONTAB, job.number(), command)?;
+                }
+            }
+            self.anacron.extend_from_slice(b"}")?;
+        } else {
             self.defaulted = self.defaulted.saturating_add(1);
-            return self.sheet.tell_job(job);
         }
-        if entry.is_none() && !self.is_draft {
-            self.tell_job(identifier, "new")?;
+        if entry.is_none() && names_lock(command) {
+            let reason = " is declared without a lock: anacron jobs have no mode";
+            return warn(alloc, &mut self.told, ANACRONTAB, job.number(), reason);
         }
-        self.sheet.add_job(job, identifier, entry)
+        Ok(())
     }
 
-    /// No entry is of that job, or none is left.
-    fn tell_job(&mut self, identifier: &str, what: &str) -> Done {
-        let alloc = self.sheet.alloc;
-        let identifier = shown(alloc, identifier.as_bytes())?;
-        self.sheet
-            .told
-            .note(format!(in alloc; "job {identifier} is {what}")?)
-    }
-
-    /// Tells of the old entries of anacron jobs that are gone.
-    fn tell_gone_jobs(&mut self, jobs: &[Job], old: &Value) -> Done {
-        for entry in items(old, "anacron") {
-            if let Some(identifier) = text_of(entry, "id")
-                && !jobs
-                    .iter()
-                    .any(|job| job.identifier() == identifier.as_bytes())
-            {
-                self.tell_job(identifier, "gone")?;
+    fn add_jobs(&mut self, alloc: Global, max: u64, old: Old<'_>, jobs: &[Job]) -> Done {
+        for job in jobs {
+            // the identifiers of a table that was read are UTF-8
+            if let Ok(identifier) = str::from_utf8(job.identifier()) {
+                self.add_job(alloc, max, old, job, identifier)?;
             }
         }
         Ok(())
     }
+}
 
-    /// Tells how many jobs have the default.
-    fn tell_defaulted(&mut self) -> Done {
-        let alloc = self.sheet.alloc;
-        let note = match self.defaulted {
-            0 => return Ok(()),
-            1 => format!(in alloc; "1 job without an entry has the default")?,
-            jobs => format!(in alloc; "{jobs} jobs without an entry have the default")?,
-        };
-        self.sheet.told.note(note)
-    }
-
-    /// A draft doesn't declare the hours that the anacrontab sets.
-    fn tell_hours(&mut self, jobs: &Anacrontab) -> Done {
-        let alloc = self.sheet.alloc;
-        let mut settings = jobs.settings().iter();
-        if settings.any(|setting| setting.name() == b"START_HOURS_RANGE".as_slice()) {
-            self.sheet.told.note(format!(in alloc;
-                "START_HOURS_RANGE is not declared, since Debian's anacron doesn't know it: all hours \
-                 are"
-            )?)?;
+/// Tells of the old entries that no line has.
+fn tell_gone(alloc: Global, told: &mut Vec<u8>, bound: &[Bound<'_>], pairs: &[Pair]) -> Done {
+    for (i, entry) in bound.iter().enumerate() {
+        if !has_line(pairs, i) {
+            let command = shown(alloc, entry.command())?;
+            tell(told, "note: gone: ", command.as_str(), "")?;
         }
-        Ok(())
+    }
+    Ok(())
+}
+
+/// Tells of the old entries of anacron jobs that are gone.
+fn tell_gone_jobs(alloc: Global, told: &mut Vec<u8>, jobs: &[Job], old: &Value) -> Done {
+    for entry in items(old, "anacron") {
+        if let Some(identifier) = text_of(entry, "id")
+            && !jobs
+                .iter()
+                .any(|job| job.identifier() == identifier.as_bytes())
+        {
+            let job = shown(alloc, identifier.as_bytes())?;
+            tell(told, "note: job ", job.as_str(), " is gone")?;
+        }
+    }
+    Ok(())
+}
+
+/// Tells how many jobs have the default.
+fn tell_defaulted(alloc: Global, told: &mut Vec<u8>, defaulted: u64) -> Done {
+    match defaulted {
+        0 => Ok(()),
+        1 => tell(told, "note: ", "1 job without an entry has the default", ""),
+        jobs => {
+            let have = " jobs without an entry have the default";
+            tell_of(alloc, told, "note: ", jobs, have, "", "")
+        }
     }
 }
 
-/// The members that stand before the lists, as they were declared.
-fn front(alloc: Global, old: &Value) -> Result<Object, AllocError> {
-    let mut front = Object::outermost(alloc);
+/// A draft doesn't declare the hours that the anacrontab sets.
+fn tell_hours(told: &mut Vec<u8>, jobs: &Anacrontab) -> Done {
+    for setting in jobs.settings() {
+        if setting.name() == b"START_HOURS_RANGE".as_slice() {
+            let reason = ", since Debian's anacron doesn't know it: all hours are";
+            return tell(told, "note: ", "START_HOURS_RANGE is not declared", reason);
+        }
+    }
+    Ok(())
+}
+
+/// Adds the members of declarations that are no lists, as they were declared.
+fn add_front(alloc: Global, text: &mut Vec<u8>, old: &Value) -> Done {
     let names = ["note", "capacity", "offset", "hours", "pass"];
-    front.add_members(old, names.as_slice())?;
+    add_members(alloc, text, LINE, old, names.as_slice())?;
     if let Some(default) = old.get("default") {
-        let mut members = Object::new(alloc);
-        members.add_members(default, ["max", "weight", "note"].as_slice())?;
-        front.add("default", members.text()?.as_str())?;
+        add(text, LINE, "default", "{")?;
+        let names = ["max", "weight", "note"];
+        add_members(alloc, text, COMMA, default, names.as_slice())?;
+        text.extend_from_slice(b"}")?;
     }
-    Ok(front)
+    Ok(())
 }
 
-/// The text of declarations, and what is told, where a new job has a longest time in minutes, or the
-/// one that is given for its line.
-pub(crate) fn updated_text<'a>(
+/// Adds a list, unless it is empty.
+fn add_list(text: &mut Vec<u8>, name: &str, list: &[u8]) -> Done {
+    if list.is_empty() {
+        return Ok(());
+    }
+    add(text, LINE, name, "[\n    ")?;
+    text.extend_from_slice(list)?;
+    text.extend_from_slice(b"\n  ]")
+}
+
+/// The text of declarations: the members that are no lists, as they were declared, and the sheet's lists.
+fn whole(alloc: Global, old: &Value, sheet: &Sheet) -> Result<Vec<u8>, AllocError> {
+    let mut text = Vec::from_slice(alloc, b"{\n  ".as_slice())?;
+    add_front(alloc, &mut text, old)?;
+    add_list(&mut text, "groups", sheet.groups.as_slice())?;
+    add_list(&mut text, "cron", sheet.cron.as_slice())?;
+    add_list(&mut text, "anacron", sheet.anacron.as_slice())?;
+    add_list(&mut text, "left_out", sheet.left_out.as_slice())?;
+    text.extend_from_slice(b"\n}\n")?;
+    Ok(text)
+}
+
+/// The text of declarations, and what is told. The remarks are those of the longest times that are given.
+pub(crate) fn updated_text(
     alloc: Global,
-    table: &'a Crontab,
+    asked: Asked<'_>,
     jobs: &Anacrontab,
-    places: &'a [Place],
-    old: Old<'a>,
-    max: u64,
-    given: &'a [Given],
+    old: Old<'_>,
     remarks: &[u8],
-) -> Result<(Vec<u8>, Told), AllocError> {
-    let lines = table.lines();
-    let mut update = Update::of(alloc, lines, places, old, max, given)?;
-    update.sheet.told.remark(remarks)?;
+) -> Result<(Vec<u8>, Vec<u8>), AllocError> {
+    let mut sheet = Sheet {
+        names: Vec::new(alloc),
+        groups: Vec::new(alloc),
+        cron: Vec::new(alloc),
+        anacron: Vec::new(alloc),
+        left_out: Vec::new(alloc),
+        told: Vec::new(alloc),
+        defaulted: 0,
+    };
+    add_groups(alloc, &mut sheet.names, &mut sheet.groups, old.value)?;
+    let bound = bound_in(alloc, &mut sheet.told, old)?;
+    let mut pairs = pairs_of(alloc, bound.as_slice(), asked.lines)?;
+    if let Some(pair) = follower_of(alloc, bound.as_slice(), asked.lines, old.entries)? {
+        pairs.push(pair)?;
+    }
+    remark(&mut sheet.told, remarks)?;
     if old.is_draft {
-        update.tell_hours(jobs)?;
+        tell_hours(&mut sheet.told, jobs)?;
     }
-    for (place, line) in lines.iter().enumerate() {
-        update.add_line(place, line)?;
-    }
-    update.tell_gone()?;
-    for job in jobs.lines() {
-        // the identifiers of a table that was read are UTF-8
-        if let Ok(identifier) = str::from_utf8(job.identifier()) {
-            update.add_job(old.value, job, identifier)?;
-        }
-    }
-    update.tell_gone_jobs(jobs.lines(), old.value)?;
-    update.tell_defaulted()?;
-    let Update { sheet, .. } = update;
-    sheet.into_text(front(alloc, old.value)?)
+    sheet.add_lines(alloc, asked, old, bound.as_slice(), pairs.as_slice())?;
+    tell_gone(alloc, &mut sheet.told, bound.as_slice(), pairs.as_slice())?;
+    sheet.add_jobs(alloc, asked.max, old, jobs.lines())?;
+    tell_gone_jobs(alloc, &mut sheet.told, jobs.lines(), old.value)?;
+    tell_defaulted(alloc, &mut sheet.told, sheet.defaulted)?;
+    let text = whole(alloc, old.value, &sheet)?;
+    Ok((text, sheet.told))
 }

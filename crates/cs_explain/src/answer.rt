@@ -3,6 +3,7 @@ ghost use Rattle.std.specs.Prelude.{IfOk};
 ghost use Rattle.cs_explain.specs.Answer.{IsExplained};
 
 use crate::guess::nearest;
+use crate::kind::KINDS;
 use crate::texts::{explain as explanation, names};
 use cs_civil::Bytes;
 use cs_files::Response;
@@ -33,7 +34,7 @@ pub fn answer_explain(alloc: Global, name: Option<&str>) -> Result<Response, All
     match explanation(alloc, name)? {
         Some(text) => Ok(Response::done(text.into_bytes(), Bytes::new(alloc))),
         None => {
-            let near = nearest(alloc, name)?;
+            let near = nearest(alloc, name, &KINDS)?;
             Ok(Response::no_call(alloc, no_such_name(alloc, name, near)?))
         }
     }

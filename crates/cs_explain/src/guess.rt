@@ -1,5 +1,5 @@
 //! The name that a name with a slip in it may be meant for.
-use crate::kind::{KINDS, Kind};
+use crate::kind::Kind;
 use std::alloc::{AllocError, Global};
 use strsim::levenshtein;
 
@@ -32,8 +32,11 @@ fn guess_among(alloc: Global, sought: &str, kind: Kind, first: Guess) -> Result<
     Ok(guess)
 }
 
-/// The name of one of these kinds that is nearest, as [`nearest`] has it.
-fn nearest_of(
+/// The name of one of these kinds that at most 3 edits lead to from this one, each of which puts,
+/// takes or changes a letter: of several the one with the fewest, of those the first in the order of
+/// [`names`](crate::names). None where there is none, or the name is longer than 40 bytes. Capital
+/// and small letters are alike. The only error is want of memory.
+pub(crate) fn nearest(
     alloc: Global,
     name: &str,
     kinds: &[Kind],
@@ -52,15 +55,7 @@ fn nearest_of(
     Ok(guess.name)
 }
 
-/// The name that at most 3 edits lead to from this one, each of which puts, takes or changes a
-/// letter: of several the one with the fewest, of those the first in the order of
-/// [`names`](crate::names). None where there is none, or the name is longer than 40 bytes. Capital
-/// and small letters are alike. The only error is want of memory.
-pub fn nearest(alloc: Global, name: &str) -> Result<Option<&'static str>, AllocError> {
-    nearest_of(alloc, name, &KINDS)
-}
-
-/// The same among the names of what `lint` calls odd.
+/// The nearest of the names of what `lint` calls odd, as [`nearest`] has it.
 pub fn nearest_odd(alloc: Global, name: &str) -> Result<Option<&'static str>, AllocError> {
-    nearest_of(alloc, name, &[Kind::Odd])
+    nearest(alloc, name, &[Kind::Odd])
 }

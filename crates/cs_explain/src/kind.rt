@@ -39,22 +39,25 @@ pub(crate) const KINDS: [Kind; 11] = [
     Kind::Odd,
 ];
 
+/// The lines above the names of each kind, in the same order.
+const HEADINGS: [&str; 11] = [
+    "In a crontab:",
+    "In a system table:",
+    "In an anacrontab:",
+    "In declarations:",
+    "In a script:",
+    "On the command line:",
+    "In a certificate:",
+    "Of a refused certificate:",
+    "Of a refused event:",
+    "Of an answer 'unknown':",
+    "Of what 'lint' calls odd:",
+];
+
 impl Kind {
     /// The line above its names.
     pub(crate) fn heading(self) -> &'static str {
-        match self {
-            Kind::Crontab => "In a crontab:",
-            Kind::System => "In a system table:",
-            Kind::Anacrontab => "In an anacrontab:",
-            Kind::Declarations => "In declarations:",
-            Kind::Script => "In a script:",
-            Kind::Call => "On the command line:",
-            Kind::Certificate => "In a certificate:",
-            Kind::Refused => "Of a refused certificate:",
-            Kind::Event => "Of a refused event:",
-            Kind::Unknown => "Of an answer 'unknown':",
-            Kind::Odd => "Of what 'lint' calls odd:",
-        }
+        HEADINGS[self as usize]
     }
 
     /// Its names with what they mean, in the order of their numbers.

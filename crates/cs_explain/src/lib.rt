@@ -19,5 +19,5 @@ mod texts;
 mod unknown;
 
 pub use answer::{answer_explain, no_such_name};
-pub use guess::{nearest, nearest_odd};
+pub use guess::nearest_odd;
 pub use texts::{explain, names, odd_name};

@@ -1,7 +1,4 @@
 //! A name that the program prints, and what it means.
-ghost use Rattle.std.specs.Prelude.{◌≡◌};
-ghost use Rattle.cs_explain.specs.Odd.{is_alike};
-
 /// A name that the program prints of one kind of input, and what it means.
 #[derive(Clone, Copy)]
 pub(crate) struct Meaning {
@@ -14,13 +11,4 @@ pub(crate) struct Meaning {
     /// the files that it stands beside, each behind a line such as `crontab:`. Where it is of
     /// another kind of file than the name, these lines say so: `wrong crontab:`.
     pub(crate) text: &'static str,
-}
-
-impl Meaning {
-    /// Whether it is the meaning of that name, whose letters may be capital or small.
-    pub(crate) fn is_of(&self, name: &str) -> bool
-        ensures { result ≡ is_alike name.now self.now.name.now }
-    {
-        self.name.eq_ignore_ascii_case(name)
-    }
 }

@@ -31,18 +31,9 @@ fn meaning_of<'a>(meanings: &'a [Meaning], name: &str) -> Option<&'a Meaning>
     ensures { option_map (λ meaning. meaning.now) result
         ≡ find (λ meaning. is_alike name.now meaning.name.now) meanings.now }
 {
-    meanings.iter().find(|meaning| meaning.is_of(name))
-}
-
-/// Writes what the name means for a kind behind the text; nothing where that has no such name.
-fn push_meaning(text: &mut String, kind: Kind, name: &str) -> Result<(), AllocError> {
-    let Some(meaning) = meaning_of(kind.meanings(), name) else {
-        return Ok(());
-    };
-    push_heading(text, kind)?;
-    push_line(text, meaning)?;
-    text.push_str(meaning.text)?;
-    text.push_str("\n")
+    meanings
+        .iter()
+        .find(|meaning| meaning.name.eq_ignore_ascii_case(name))
 }
 
 /// Writes the names of a kind behind the text, each with its short meaning in a line of its own.
@@ -61,7 +52,12 @@ fn push_names(text: &mut String, kind: Kind) -> Result<(), AllocError> {
 pub fn explain(alloc: Global, name: &str) -> Result<Option<String>, AllocError> {
     let mut text = String::new(alloc);
     for kind in KINDS {
-        push_meaning(&mut text, kind, name)?;
+        if let Some(meaning) = meaning_of(kind.meanings(), name) {
+            push_heading(&mut text, kind)?;
+            push_line(&mut text, meaning)?;
+            text.push_str(meaning.text)?;
+            text.push_str("\n")?;
+        }
     }
     if text.is_empty() {
         return Ok(None);

@@ -1,17 +1,13 @@
 -- Tables of a machine as one user's table: what each adds, and what the text says in the end.
-use Rattle.std.specs.Prelude.{◌≡◌, ◌<◌, ℕ, ◌+◌, ◌-◌, ◌⊎◌, true, List, [], ◌∷◌, ◌++◌, Option, Some, None, length, option_map, ⊤}
+use Rattle.std.specs.Prelude.{◌≡◌, ℕ, ◌+◌, ◌-◌, ◌⊎◌, true, List, [], ◌∷◌, ◌++◌, Option, Some, None, length, option_map}
 use Rattle.std.specs.List.{list_all, AllZip}
 use Rattle.clap.specs.Words.{Text}
-use Rattle.cs_schedule.specs.Numbers.{has}
-use Rattle.cs_schedule.specs.Times.{Choice}
 use Rattle.cs_table.specs.declared.fault.TableFault.{TableFault}
 use Rattle.cs_table.specs.declared.fault.TableFault.TheVariants.{At, OutOfMemory}
 use Rattle.cs_table.specs.Text.{lines_of, is_blank, StopsAt}
 use Rattle.cs_crontab.specs.declared.fault.LineFault.{LineFault}
 use Rattle.cs_crontab.specs.declared.fault.LineFault.TheVariants.{TooLong, TooManyJobs}
 use Rattle.cs_crontab.specs.declared.limits.TheConstants.{MAX_COMMANDS}
-use Rattle.cs_crontab.specs.declared.table.When.{When}
-use Rattle.cs_crontab.specs.declared.table.When.TheVariants as when
 use Rattle.cs_crontab.specs.Crontab.{CommandLine, Table as Crontab}
 use Rattle.cs_crontab.specs.Faults as users
 use Rattle.cs_crontab.specs.Faults.{IsCrontab}
@@ -21,22 +17,12 @@ use Rattle.cs_system.specs.Faults.{IsSystemCrontab, IsFaultOf}
 use Rattle.cs_place.specs.Mark.{mark}
 use Rattle.cs_place.specs.Places.{place_of, places_of}
 use Rattle.cs_place.specs.declared.places.Place.{Place}
+use Rattle.cs_decl.specs.When.{same_when}
 use Rattle.cs_gather.specs.declared.line.Gathered.{Gathered}
 use Rattle.cs_gather.specs.declared.table.Table.{Table}
 use Rattle.cs_gather.specs.declared.table.Table.TheVariants.{System, User}
 
 -- ---- what the text says
-
--- two fields have the same numbers, and both begin with `*` or neither does
-abbrev pub AreSame : Choice → Choice → Type 0
-AreSame a b = (a.star ≡ b.star) × ((n : ℕ) → n < 64 → has a.numbers n ≡ has b.numbers n)
-
--- two commands start at the same times
-abbrev pub IsSameWhen : When → When → Type 0
-IsSameWhen (when.At a) (when.At b) = AreSame a.minute b.minute × (AreSame a.hour b.hour
-    × (AreSame a.dom b.dom × (AreSame a.month b.month × AreSame a.dow b.dow)))
-IsSameWhen when.Reboot when.Reboot = ⊤
-IsSameWhen a b = ⊥
 
 -- what the comment of a place says: `NAME:LINE`, and a user
 abbrev pub told_by : Place → List ℕ × List ℕ
@@ -46,7 +32,7 @@ told_by place = (place.origin, place.user)
 -- command comes from, with its user
 pub record IsGathered (places : List Place) (line : CommandLine) (gathered : Gathered)
     : Type 0 where
-  pub when : IsSameWhen line.when gathered.when
+  pub when : same_when line.when gathered.when ≡ true
   pub command : line.command ≡ gathered.command
   pub place : option_map told_by (place_of places line.number)
       ≡ Some (gathered.origin, gathered.user)

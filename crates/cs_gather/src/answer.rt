@@ -19,6 +19,7 @@ use cs_args::GatherWords;
 use cs_civil::Bytes;
 use cs_files::{Fault, Response, Status, bytes_at};
 use cs_io::Folders;
+use cs_place::MARK;
 use cs_table::MAX_TABLE;
 use std::alloc::{AllocError, Global};
 
@@ -116,7 +117,10 @@ fn gather<I: Folders>(
     let mut tables = found;
     push_named(alloc, request, &mut tables)?;
     let all = tables.as_slice();
-    let mut gathering = Gathering::new(alloc)?;
+    let mut gathering = Gathering {
+        text: Vec::from_slice(alloc, MARK.as_bytes())?,
+        commands: Vec::new(alloc),
+    };
     match add_tables(alloc, inputs, request.root, all, &mut gathering, &mut notes) {
         Ok(()) => show(alloc, gathering, notes),
         Err(fault) => fault.response(alloc, notes.as_slice()),

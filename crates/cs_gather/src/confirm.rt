@@ -4,8 +4,8 @@ ghost use Rattle.std.specs.List.{AllZip};
 ghost use Rattle.cs_gather.specs.Gather.{Gathers, IsGathered};
 
 use crate::line::Gathered;
-use crate::when::is_same_when;
 use cs_crontab::{Line, TableFault, read_crontab};
+use cs_decl::is_same_when;
 use cs_place::{Place, are_mark, place_of, read_places};
 use std::alloc::{AllocError, Global};
 

@@ -1,4 +1,4 @@
-ghost use Rattle.std.specs.Prelude.{◌≡◌, ◌≤◌, ◌++◌, [], IfErr, IfOk, OnOk, length};
+ghost use Rattle.std.specs.Prelude.{◌≡◌, ◌≤◌, ◌++◌, IfErr, OnOk, length};
 ghost use Rattle.cs_table.specs.declared.limits.TheConstants.{MAX_TABLE};
 ghost use Rattle.cs_gather.specs.Gather.{room_behind, IsOverflow};
 
@@ -6,10 +6,9 @@ use crate::line::Gathered;
 use crate::writing::push_lines;
 use cs_civil::{Bytes, Sequence};
 use cs_crontab::MAX_COMMANDS;
-use cs_place::MARK;
 use cs_system::SystemFault;
 use cs_table::TableFault;
-use std::alloc::{AllocError, Global};
+use std::alloc::Global;
 
 /// Why a table could not be added: its own first fault; or, from its first line on, its first
 /// command above [`MAX_COMMANDS`](cs_crontab::MAX_COMMANDS) over all tables, or the first line with
@@ -31,16 +30,6 @@ pub(crate) struct Gathering {
 }
 
 impl Gathering {
-    /// A gathering of no tables.
-    pub(crate) fn new(alloc: Global) -> Result<Gathering, AllocError>
-        ensures { IfOk result (λ gathering. gathering.commands.items ≡ []) }
-    {
-        Ok(Gathering {
-            text: Vec::from_slice(alloc, MARK.as_bytes())?,
-            commands: Vec::new(alloc),
-        })
-    }
-
     /// Adds the commands of a table, which comments call by that name, each with its parts.
     pub(crate) fn add(
         &mut self,

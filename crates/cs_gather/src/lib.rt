@@ -12,7 +12,6 @@ mod note;
 mod parts;
 mod root;
 mod table;
-mod when;
 mod writing;
 
 pub use answer::answer_gather;

@@ -2,7 +2,6 @@ ghost use Rattle.std.specs.Prelude.{◌≡◌, IfOk, flat_map};
 ghost use Rattle.cs_gather.specs.Gathered.{place_text, shown_in_user};
 
 use crate::comment::{push_place, push_user};
-use crate::when::copy_when;
 use cs_civil::Bytes;
 use cs_crontab::When;
 use std::alloc::{AllocError, Global};
@@ -46,7 +45,10 @@ impl Gathered {
             number,
             origin: Bytes::from_vec(origin),
             user: Bytes::from_vec(owner),
-            when: copy_when(when),
+            when: match when {
+                When::At(schedule) => When::At(schedule.copy()),
+                When::Reboot => When::Reboot,
+            },
             command: Bytes::from_slice(alloc, command)?,
         })
     }

@@ -10,11 +10,6 @@ use crate::note::push_line;
 use cs_io::{Folders, ReadFault, read_whole};
 use std::alloc::Global;
 
-/// The path of the root folder: by the name of standard input it is no standard input.
-fn folder(root: &str) -> &str {
-    if root == "-" { "./-" } else { root }
-}
-
 /// How paths below the root folder begin.
 pub(crate) fn front(root: &str) -> &str
     ensures { IsFront root.now result.now }
@@ -67,7 +62,8 @@ pub(crate) fn tables_below<I: Folders>(
     ensures fails { IfErr result (IsUnlisted (I.failed inputs.new) (I.reads inputs.new)) }
     ensures turn { AreSomeRead (I.reads inputs.old) (I.reads inputs.new) }
 {
-    let folder = folder(root);
+    // by the name of standard input it is no standard input
+    let folder = if root == "-" { "./-" } else { root };
     let is_there = names_at(alloc, inputs, folder)?.is_some();
     let front = front(root);
     inputs.look_below(alloc, front)?;

@@ -19,15 +19,6 @@ use cs_table::text::{first_line, skip_blanks};
 use cs_table::{MAX_LINE, MAX_TABLE, Wrong};
 use std::alloc::{AllocError, Global};
 
-/// The fields or the word of a command line, and the blanks behind them.
-fn time_text(line: &[u8]) -> &[u8] {
-    let text = skip_blanks(line);
-    match read_line(line) {
-        Ok(Entry::Command(_, behind)) => &text[..text.len().saturating_sub(behind.len())],
-        _ => text,
-    }
-}
-
 /// Adds the place of a command, its parts, and the command. Says whether the text stays short
 /// enough.
 fn push_command(
@@ -49,7 +40,11 @@ fn push_command(
         text.push(b'\n')?;
         is_short = is_short && name.len() <= MAX_LINE - PART.len();
     }
-    text.extend_from_slice(time_text(line))?;
+    let mut time = skip_blanks(line);
+    if let Ok(Entry::Command(_, behind)) = read_line(line) {
+        time = &time[..time.len().saturating_sub(behind.len())];
+    }
+    text.extend_from_slice(time)?;
     text.extend_from_slice(gathered.command.as_slice())?;
     text.push(b'\n')?;
     Ok(is_short && text.len() <= MAX_TABLE)

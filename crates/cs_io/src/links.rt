@@ -30,31 +30,11 @@ struct Way {
 }
 
 impl Way {
-    /// A way that begins at the root.
-    fn new(alloc: Global) -> Way {
-        Way {
-            alloc,
-            done: String::new(alloc),
-            left: Vec::new(alloc),
-            links: 0,
-        }
-    }
-
     /// Puts the names of a path before those that are left.
     fn push_path(&mut self, path: &str) -> Result<(), AllocError> {
         for name in path.rsplit('/') {
             self.left.push(String::from_str(self.alloc, name)?)?;
         }
-        Ok(())
-    }
-
-    /// Goes to the folder above. Above the root is the root.
-    fn go_up(&mut self) -> Result<(), AllocError> {
-        let above = match self.done.rsplit_once('/') {
-            Some((above, _)) => String::from_str(self.alloc, above)?,
-            None => String::new(self.alloc),
-        };
-        self.done = above;
         Ok(())
     }
 
@@ -70,15 +50,17 @@ impl Way {
         Ok(self.push_path(target)?)
     }
 
-    /// Goes to a name in the folder that it has come to.
+    /// Goes to a name in the folder that it has come to. Above the root is the root.
     fn go_to<R: Files>(&mut self, rt: &R, front: &str, name: &str) -> io::Result<()> {
         if name.is_empty() || name == "." {
             return Ok(());
         }
-        if name == ".." {
-            return Ok(self.go_up()?);
-        }
         let (alloc, done) = (self.alloc, self.done.as_str());
+        if name == ".." {
+            let (above, _) = done.rsplit_once('/').unwrap_or(("", ""));
+            self.done = String::from_str(alloc, above)?;
+            return Ok(());
+        }
         let done = format!(in alloc; "{done}/{name}")?;
         let path = format!(in alloc; "{front}{done}")?;
         if rt.symlink_metadata(path.as_str())?.is_symlink() {
@@ -99,23 +81,24 @@ impl Root {
     /// Where the machine has the file of a path below the root folder, behind all links: an absolute
     /// one begins at the root, and none leads above it.
     pub(crate) fn behind_links<R: Files>(&self, rt: &R, path: &str) -> io::Result<Option<String>> {
-        match path.strip_prefix(self.front.as_str()) {
-            Some(rest) if rest.starts_with('/') => Ok(Some(self.end_of(rt, rest)?)),
-            _ => Ok(None),
+        let (alloc, front) = (self.alloc, self.front.as_str());
+        let rest = path.strip_prefix(front).unwrap_or("");
+        if !rest.starts_with('/') {
+            return Ok(None);
         }
-    }
-
-    /// The end of a way from the root.
-    fn end_of<R: Files>(&self, rt: &R, path: &str) -> io::Result<String> {
-        let alloc = self.alloc;
-        let mut way = Way::new(alloc);
-        way.push_path(path)?;
+        let mut way = Way {
+            alloc,
+            done: String::new(alloc),
+            left: Vec::new(alloc),
+            links: 0,
+        };
+        way.push_path(rest)?;
         for _step in 0..MOST_STEPS {
             let Some(name) = way.left.pop() else {
-                let (front, done) = (self.front.as_str(), way.done.as_str());
-                return Ok(format!(in alloc; "{front}{done}")?);
+                let done = way.done.as_str();
+                return Ok(Some(format!(in alloc; "{front}{done}")?));
             };
-            way.go_to(rt, self.front.as_str(), name.as_str())?;
+            way.go_to(rt, front, name.as_str())?;
         }
         Err(io::Error::from(ErrorKind::FilesystemLoop))
     }

@@ -46,30 +46,22 @@ impl<'a, R: Files + Input> Machine<'a, R> {
         }
     }
 
-    fn open_file(&self, path: &str) -> io::Result<R::File> {
-        let file = self.behind_links(path)?;
-        fs::open(self.rt, text_or(&file, path))
-    }
-
     fn read_file(&mut self, path: &str, buf: &mut [u8]) -> io::Result<usize>
         ensures bound { IfOk result (λ n. n ≤ length buf.new) }
         ensures flag { self.new.has_failed ≡ self.old.has_failed }
     {
         let mut file = match self.open.take() {
             Some(file) => file,
-            None => self.open_file(path)?,
+            None => {
+                let file = self.behind_links(path)?;
+                fs::open(self.rt, text_or(&file, path))?
+            }
         };
         let n = file.read(buf)?;
         if n != 0 {
             self.open = Some(file);
         }
         Ok(n)
-    }
-
-    fn read_standard(&self, buf: &mut [u8]) -> io::Result<usize>
-        ensures { IfOk result (λ n. n ≤ length buf.new) }
-    {
-        self.rt.reader().read(buf)
     }
 
     fn kind_at(&self, path: &str) -> io::Result<FileKind> {
@@ -144,15 +136,6 @@ fn fault_of(error: &io::Error) -> ReadFault {
     }
 }
 
-/// What a path leads to that the machine can't follow, if that is known.
-fn kind_behind(error: &io::Error) -> Result<Option<FileKind>, ReadFault> {
-    match error.kind() {
-        ErrorKind::NotFound | ErrorKind::NotADirectory => Ok(None),
-        ErrorKind::FilesystemLoop => Ok(Some(FileKind::Other)),
-        _ => Err(fault_of(error)),
-    }
-}
-
 /// The path of a folder with a slash at its end, behind which a link to a folder is followed.
 fn with_slash(alloc: Global, path: &str) -> Result<String, AllocError> {
     let mut folder = String::from_str(alloc, path)?;
@@ -168,7 +151,7 @@ impl<'a, R: Files + Input> Inputs for Machine<'a, R> {
 
     fn read(&mut self, path: &str, buf: &mut [u8]) -> Result<usize, CannotRead> {
         let given = if path == "-" {
-            self.read_standard(buf)
+            self.rt.reader().read(buf)
         } else {
             self.read_file(path, buf)
         };
@@ -195,14 +178,17 @@ impl<'a, R: Files + Input> Folders for Machine<'a, R> {
     }
 
     fn kind_of(&mut self, path: &str) -> Result<Option<FileKind>, ReadFault> {
-        let kind = match self.kind_at(path) {
+        match self.kind_at(path) {
             Ok(kind) => Ok(Some(kind)),
-            Err(error) => kind_behind(&error),
-        };
-        if kind.is_err() {
-            self.has_failed = true;
+            Err(error) => match error.kind() {
+                ErrorKind::NotFound | ErrorKind::NotADirectory => Ok(None),
+                ErrorKind::FilesystemLoop => Ok(Some(FileKind::Other)),
+                _ => {
+                    self.has_failed = true;
+                    Err(fault_of(&error))
+                }
+            },
         }
-        kind
     }
 
     fn names(&mut self, alloc: Global, path: &str) -> Result<Option<Sequence<Bytes>>, ReadFault> {

@@ -42,13 +42,6 @@ impl<W: Write> Printer<W> {
             has_failed: false,
         }
     }
-
-    /// Unwraps the writer.
-    pub fn into_writer(self) -> W
-        ensures { result ≡ self.writer }
-    {
-        self.writer
-    }
 }
 
 impl<W: Write> Output for Printer<W> {

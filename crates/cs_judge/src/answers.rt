@@ -26,7 +26,7 @@ use cs_verdict::{Breach, no_reach, push_comments, story};
 use std::alloc::{AllocError, Global};
 
 /// What is asked of a plan.
-#[derive(Clone, Copy, PartialEq, Eq)]
+#[derive(Clone, Copy)]
 pub enum Wanted {
     /// Whether it is safe.
     Verdict,
@@ -37,7 +37,7 @@ pub enum Wanted {
 }
 
 /// The result for a plan.
-#[derive(Clone, Copy, PartialEq, Eq)]
+#[derive(Clone, Copy)]
 pub enum Outcome {
     /// The checker accepted a certificate.
     Safe,
@@ -58,20 +58,15 @@ fn unknown_outcome(reason: Reason) -> Outcome
     }
 }
 
-/// The words of the comments on a reason.
-fn comments_on(alloc: Global, plan: &Plan, reason: Reason) -> Result<Vec<Bytes>, AllocError> {
-    match reason {
-        Reason::NoReach => no_reach(alloc, plan),
-        _ => Ok(Vec::new(alloc)),
-    }
-}
-
 /// `unknown: REASON`, a line, and comments on that reason.
 #[tactic(auto, unfolding(crate::specs::Answer::unknown_text))]
 fn unknown_text(alloc: Global, plan: &Plan, reason: Reason) -> Result<Vec<u8>, AllocError>
     ensures { IfOk result (λ text. IsUnknownText reason text.items) }
 {
-    let comments = comments_on(alloc, plan, reason)?;
+    let comments = match reason {
+        Reason::NoReach => no_reach(alloc, plan)?,
+        _ => Vec::new(alloc),
+    };
     let mut text = Vec::from_slice(alloc, b"unknown: ".as_slice())?;
     text.extend_from_slice(reason.name().as_bytes())?;
     text.extend_from_slice(b"\n")?;

@@ -1,4 +1,4 @@
-ghost use Rattle.std.specs.Prelude.{◌≡◌, IfErr, IfOk, IfSome, true};
+ghost use Rattle.std.specs.Prelude.{IfErr, IfOk, IfSome};
 ghost use Rattle.cs_claims.specs.Certificate.{content};
 ghost use Rattle.cs_check.specs.Checked.{certificate_in};
 ghost use Rattle.cs_report.specs.ScriptText.{is_nameable};
@@ -69,17 +69,7 @@ fn accept<R: Threads + Sync>(
     }
 }
 
-/// What a script breaks first and what runs then, if it shows the plan unsafe.
-fn proved_breach(alloc: Global, plan: &Plan, script: &Script) -> Result<(Shown, Breach), NotShown>
-    requires { is_nameable plan.now script.now ≡ true }
-    ensures { IfOk result (λ found. Shows plan.now script.now found.0) }
-{
-    let shown = prove_unsafe(alloc, plan, script)?;
-    let breach = first_breach(alloc, plan, script)?;
-    Ok((shown, breach))
-}
-
-/// The same, if the script can be written too.
+/// What a script breaks first and what runs then, if it can be written and shows the plan unsafe.
 fn show(alloc: Global, plan: &Plan, script: &Script) -> Result<Option<(Shown, Breach)>, AllocError>
     ensures { IfOk result
         (λ found. IfSome found (λ it. Shows plan.now script.now it.0)) }
@@ -87,11 +77,13 @@ fn show(alloc: Global, plan: &Plan, script: &Script) -> Result<Option<(Shown, Br
     if !is_nameable(plan, script) {
         return Ok(None);
     }
-    match proved_breach(alloc, plan, script) {
-        Ok(found) => Ok(Some(found)),
-        Err(NotShown::OutOfMemory) => Err(AllocError),
-        Err(_) => Ok(None),
-    }
+    let shown = match prove_unsafe(alloc, plan, script) {
+        Ok(shown) => shown,
+        Err(NotShown::OutOfMemory) => return Err(AllocError),
+        Err(_) => return Ok(None),
+    };
+    let breach = first_breach(alloc, plan, script)?;
+    Ok(Some((shown, breach)))
 }
 
 /// The maker's counterexample, what it breaks first and what runs then, or why there is none that

@@ -30,14 +30,6 @@ fn no_factor(alloc: Global, factor: &str) -> Result<Response, AllocError>
     Ok(Response::no_call(alloc, text))
 }
 
-/// What is answered where no text passes.
-fn nothing_learned(alloc: Global) -> Result<Response, AllocError>
-    ensures { IfOk result (λ r. (r.status ≡ 2) × (r.out ≡ [])) }
-{
-    let fault = b"no longest times could be learned".as_slice();
-    Response::fault(alloc, Status::Unknown, b"".as_slice(), fault)
-}
-
 /// Why a log can't be read.
 fn fault_of(unread: Unread<'_>) -> Fault<'_>
     ensures { trouble result ≡ trouble_of unread.entry.path.now unread.entry.fault }
@@ -132,6 +124,9 @@ pub fn answer_learn(
             let told = summary_of(alloc, lines, places, &found.log, found.factor)?;
             Ok(Response::done(text, told))
         }
-        None => nothing_learned(alloc),
+        None => {
+            let fault = b"no longest times could be learned".as_slice();
+            Response::fault(alloc, Status::Unknown, b"".as_slice(), fault)
+        }
     }
 }

@@ -16,40 +16,30 @@ fn month_name(day: Day) -> &'static str {
     }
 }
 
-/// `:01`, the second of a minute.
-fn second_text(seconds: u64) -> [u8; 3] {
-    let second = (seconds % 60) as u8;
-    [b':', b'0' + second / 10, b'0' + second % 10]
-}
-
-/// `Nov  7 09:17:01`, as syslog has it: a blank stands for a zero in front of the day of the month.
-fn push_of_year(text: &mut Vec<u8>, seconds: u64) -> Result<(), AllocError> {
+/// Adds a moment as logs write it: `Nov  7 09:17:01`, with a blank for a zero in front of the day of the
+/// month, or `2024-09-13 23:30:01 UTC` where the log tells the year. The only error is out of memory.
+pub(crate) fn push_moment(text: &mut Vec<u8>, at: Moment) -> Result<(), AllocError> {
+    let (seconds, is_universal) = match at {
+        Moment::OfYear(seconds) => (seconds, false),
+        Moment::Universal(seconds) => (seconds, true),
+    };
     let Some(minute) = Minute::new(seconds / 60) else {
         return Ok(());
     };
     let date = date_text(minute);
-    let tens = if date[8] == b'0' { b' ' } else { date[8] };
-    text.extend_from_slice(month_name(minute.day()).as_bytes())?;
-    text.extend_from_slice(&[b' ', tens])?;
-    text.extend_from_slice(&date[9..])?;
-    text.extend_from_slice(&second_text(seconds))
-}
-
-/// `2024-09-13 23:30:01 UTC`.
-fn push_universal(text: &mut Vec<u8>, seconds: u64) -> Result<(), AllocError> {
-    let Some(minute) = Minute::new(seconds / 60) else {
-        return Ok(());
-    };
-    text.extend_from_slice(&date_text(minute))?;
-    text.extend_from_slice(&second_text(seconds))?;
-    text.extend_from_slice(b" UTC")
-}
-
-/// Adds a moment as logs write it: `Nov  7 09:17:01`, or `2024-09-13 23:30:01 UTC` where the log tells
-/// the year. The only error is out of memory.
-pub(crate) fn push_moment(text: &mut Vec<u8>, at: Moment) -> Result<(), AllocError> {
-    match at {
-        Moment::OfYear(seconds) => push_of_year(text, seconds),
-        Moment::Universal(seconds) => push_universal(text, seconds),
+    if is_universal {
+        text.extend_from_slice(&date)?;
+    } else {
+        let tens = if date[8] == b'0' { b' ' } else { date[8] };
+        text.extend_from_slice(month_name(minute.day()).as_bytes())?;
+        text.extend_from_slice(&[b' ', tens])?;
+        text.extend_from_slice(&date[9..])?;
     }
+    let second = (seconds % 60) as u8;
+    text.extend_from_slice(&[b':', b'0' + second / 10, b'0' + second % 10])?;
+    text.extend_from_slice(if is_universal {
+        b" UTC".as_slice()
+    } else {
+        b""
+    })
 }

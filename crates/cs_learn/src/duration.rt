@@ -11,25 +11,20 @@ const DECEMBER: u64 = 975_628_800;
 /// The seconds of 366 days.
 const LEAP_YEAR: u64 = 31_622_400;
 
-/// Without a year, January comes after December, and nobody knows whether February had 29 days.
-fn passed_of_year(begin: u64, end: u64) -> Option<u64> {
-    if begin <= end {
-        if begin < MARCH && MARCH <= end {
-            return None;
-        }
-        return Some(end - begin);
-    }
-    if DECEMBER <= begin && end < FEBRUARY {
-        return Some((end + LEAP_YEAR).saturating_sub(begin));
-    }
-    None
-}
-
 /// The seconds from a run's beginning to its end: `None` where the clock went back, and where it doesn't
-/// tell the year and the run went on from February into March.
+/// tell the year and the run went on from February into March. Without a year, January comes after
+/// December, and nobody knows whether February had 29 days.
 pub(crate) fn passed(begin: Moment, end: Moment) -> Option<u64> {
     match (begin, end) {
-        (Moment::OfYear(begin), Moment::OfYear(end)) => passed_of_year(begin, end),
+        (Moment::OfYear(begin), Moment::OfYear(end)) => {
+            if begin <= end && (MARCH <= begin || end < MARCH) {
+                return Some(end - begin);
+            }
+            if DECEMBER <= begin && end < FEBRUARY {
+                return Some((end + LEAP_YEAR).saturating_sub(begin));
+            }
+            None
+        }
         (Moment::Universal(begin), Moment::Universal(end)) => end.checked_sub(begin),
         _ => None,
     }

@@ -76,12 +76,6 @@ fn without_end(line: &LogLine, later: Moment) -> Ran {
     }
 }
 
-/// The number and the command in `job line 3: COMMAND`.
-fn listed(text: &[u8]) -> Option<(u64, &[u8])> {
-    let (digits, rest) = split(b':', behind(b"job line ", text)?)?;
-    Some((number(digits)?, behind(b" ", rest)?))
-}
-
 impl Log {
     /// What is known of jobs before any log, without allocating.
     pub(crate) fn new(alloc: Global, jobs: Vec<Job>) -> Log {
@@ -183,8 +177,8 @@ impl Log {
         }
     }
 
-    /// Takes a line that tells nothing of a run, if it lists a command. A daemon that begins lists all
-    /// anew.
+    /// Takes a line that tells nothing of a run, if it lists a command, as `job line 3: COMMAND` does. A
+    /// daemon that begins lists all anew.
     fn take_other(&mut self, alloc: Global) -> Result<(), AllocError> {
         let Some((_at, words)) = time_and_rest(self.line.as_slice()) else {
             return Ok(());
@@ -193,7 +187,10 @@ impl Log {
             self.commands.clear();
             return Ok(());
         }
-        let Some((number, command)) = listed(words) else {
+        let Some((digits, rest)) = split(b':', behind(b"job line ", words).unwrap_or(b"")) else {
+            return Ok(());
+        };
+        let (Some(number), Some(command)) = (number(digits), behind(b" ", rest)) else {
             return Ok(());
         };
         if self.commands.len() < MAX_COMMANDS {

@@ -5,7 +5,7 @@ use crate::job::Job;
 use crate::learned::max_of_job;
 use crate::log::{Log, Tally};
 use crate::max::Factor;
-use cs_civil::Bytes;
+use cs_civil::{Bytes, push_number};
 use cs_crontab::{Line, When};
 use cs_place::{Place, place_of, push_place_text};
 use cs_retrace::LONGEST_MAX;
@@ -36,18 +36,6 @@ fn runs(alloc: Global, count: u64) -> Result<String, AllocError> {
     format!(in alloc; "{count} run{ending}")
 }
 
-/// `line 3`, or `line 3, /etc/cron.d/munin:12 (munin)` where it has a place.
-fn push_line(alloc: Global, text: &mut Vec<u8>, places: &[Place], number: u32) -> Done {
-    text.extend_from_slice(format!(in alloc; "line {number}")?.as_bytes())?;
-    match place_of(places, number) {
-        Some(place) => {
-            text.extend_from_slice(b", ")?;
-            push_place_text(text, place)
-        }
-        None => Ok(()),
-    }
-}
-
 /// `2 runs (fewer than 10), median 1 min, longest 90 s from Nov  7 09:17:01`
 fn push_runs(alloc: Global, text: &mut Vec<u8>, evidence: &Evidence, longest: Ran) -> Done {
     text.extend_from_slice(runs(alloc, evidence.count)?.as_bytes())?;
@@ -66,7 +54,8 @@ fn push_runs(alloc: Global, text: &mut Vec<u8>, evidence: &Evidence, longest: Ra
     push_moment(text, longest.began)
 }
 
-/// `line 3: 2 runs (fewer than 10), median 1 min, longest 90 s from Nov  7 09:17:01, max 3 min`
+/// `line 3: 2 runs (fewer than 10), median 1 min, longest 90 s from Nov  7 09:17:01, max 3 min`, with the
+/// place of the line behind its number where it has one, such as `, /etc/cron.d/munin:12 (munin)`.
 fn push_row(
     alloc: Global,
     text: &mut Vec<u8>,
@@ -75,7 +64,12 @@ fn push_row(
     evidence: &Evidence,
     max: Option<u64>,
 ) -> Done {
-    push_line(alloc, text, places, line.number())?;
+    text.extend_from_slice(b"line ")?;
+    push_number(alloc, text, u128::from(line.number()))?;
+    if let Some(place) = place_of(places, line.number()) {
+        text.extend_from_slice(b", ")?;
+        push_place_text(text, place)?;
+    }
     match evidence.longest {
         Some(longest) => {
             text.extend_from_slice(b": ")?;
@@ -84,7 +78,9 @@ fn push_row(
         None => text.extend_from_slice(b": no runs")?,
     }
     if let Some(max) = max {
-        text.extend_from_slice(format!(in alloc; ", max {max} min")?.as_bytes())?;
+        text.extend_from_slice(b", max ")?;
+        push_number(alloc, text, u128::from(max))?;
+        text.extend_from_slice(b" min")?;
     }
     text.extend_from_slice(b"\n")
 }
@@ -180,7 +176,8 @@ fn push_left_out(alloc: Global, text: &mut Vec<u8>, told: &[u8], count: u64) -> 
         return Ok(());
     }
     text.extend_from_slice(told)?;
-    text.extend_from_slice(format!(in alloc; "{count}\n")?.as_bytes())
+    push_number(alloc, text, u128::from(count))?;
+    text.extend_from_slice(b"\n")
 }
 
 /// Tells what the lines of the logs don't tell.

@@ -2,7 +2,7 @@
 ghost use Rattle.std.specs.Prelude.{◌≡◌, ◌≢◌, ◌≤◌, ℕ, List, [], Option, true, IfErr, IfOk, IfSome, OnOk, Some, is_none, length, map, option_map};
 ghost use Rattle.cs_args.specs.Asked.{asked_lint};
 ghost use Rattle.cs_table.specs.declared.limits.TheConstants.{MAX_TABLE};
-ghost use Rattle.cs_io.specs.Files.{AreReadInTurn, IsFresh, IsReadAlone};
+ghost use Rattle.cs_io.specs.Files.{AreReadInTurn, IsFresh};
 ghost use Rattle.cs_lint.specs.Refused.{Finds, Judges};
 ghost use Rattle.cs_files.specs.Response.{status_of};
 ghost use Rattle.cs_files.specs.Trouble.{IsHonest, IsHonestOf, trouble};
@@ -76,26 +76,7 @@ fn declarations_at<'a, I: Inputs>(
     }
 }
 
-/// The next changes of the clocks of the time zone whose file is at a path.
-fn changes_from<'a, I: Inputs>(
-    alloc: Global,
-    inputs: &mut I,
-    path: &'a str,
-    now: Timestamp,
-) -> Result<Vec<Change>, Fault<'a>>
-    ensures works { OnOk result (I.failed inputs.new ≡ I.failed inputs.old) }
-    ensures status { IfErr result (IsHonestOf (I.failed inputs.new) (I.reads inputs.new)) }
-    ensures told { IfErr result (IsUnreadZone (Some path.now)
-        (I.failed inputs.old) (I.failed inputs.new)) }
-    ensures none { IsFresh (I.whole inputs.old) (I.left inputs.old)
-        → IfErr result (IsTrueOf (I.whole inputs.old) (Some path.now)) }
-    ensures alone { IsReadAlone path.now (I.reads inputs.old) (I.reads inputs.new) }
-{
-    let zone = bytes_at(alloc, inputs, path, MAX_TABLE as u32)?;
-    changes_in(alloc, path, zone.as_slice(), now)
-}
-
-/// And where there is one.
+/// The next changes of the clocks of the time zone whose file is at a path, if there is one.
 fn changes_at<'a, I: Inputs>(
     alloc: Global,
     inputs: &mut I,
@@ -112,10 +93,11 @@ fn changes_at<'a, I: Inputs>(
     ensures turn { AreReadInTurn (some_path (option_map (λ path. path.now) path.entry))
         (I.reads inputs.old) (I.reads inputs.new) }
 {
-    match path {
-        Some(path) => changes_from(alloc, inputs, path, now),
-        None => Ok(Vec::new(alloc)),
-    }
+    let Some(path) = path else {
+        return Ok(Vec::new(alloc));
+    };
+    let zone = bytes_at(alloc, inputs, path, MAX_TABLE as u32)?;
+    changes_in(alloc, path, zone.as_slice(), now)
 }
 
 /// Both tables.

@@ -27,14 +27,6 @@ pub(crate) struct Change {
 /// So many transitions are looked at: two years, where there is summer time.
 const TRANSITIONS: usize = 4;
 
-/// How many seconds clocks are ahead of UTC at a second; `None` at one that no instant has.
-fn offset_at(zone: &Tzif, second: i64) -> Option<i32> {
-    let Ok(at) = Timestamp::from_nanosecond(i128::from(second) * 1_000_000_000) else {
-        return None;
-    };
-    Some(zone.to_offset(at).seconds)
-}
-
 /// The first minute that begins at this second of clocks or behind it, so far ahead of UTC, if it is
 /// a civil minute.
 fn minute_from(second: i64, offset: i32) -> Option<Minute> {
@@ -42,10 +34,9 @@ fn minute_from(second: i64, offset: i32) -> Option<Minute> {
     Minute::new(u64::try_from(number).ok()?)
 }
 
-/// The change of a zone's clocks at a second, if there is one.
-fn change_at(zone: &Tzif, second: i64) -> Option<Change> {
-    let before = offset_at(zone, second.checked_sub(1)?)?;
-    let after = offset_at(zone, second)?;
+/// The change of clocks at a second, which were so far ahead of UTC before it and are after, if it
+/// is one.
+fn change_at(second: i64, before: i32, after: i32) -> Option<Change> {
     let first = minute_from(second, before.min(after))?;
     let end = minute_from(second, before.max(after))?;
     if first >= end {
@@ -61,15 +52,17 @@ fn change_at(zone: &Tzif, second: i64) -> Option<Change> {
 /// The changes at the next transitions after an instant.
 fn next_changes(alloc: Global, zone: &Tzif, after: Timestamp) -> Result<Vec<Change>, AllocError> {
     let mut changes = Vec::new(alloc);
-    let mut at = after;
+    let (mut at, mut before) = (after, zone.to_offset(after).seconds);
     for _step in 0..TRANSITIONS {
         let Some(next) = zone.next_transition(at) else {
             return Ok(changes);
         };
         at = next.timestamp;
-        if let Some(change) = change_at(zone, at.floor_second()) {
+        let after = zone.to_offset(at).seconds;
+        if let Some(change) = change_at(at.floor_second(), before, after) {
             changes.push(change)?;
         }
+        before = after;
     }
     Ok(changes)
 }

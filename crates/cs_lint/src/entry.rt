@@ -1,6 +1,6 @@
 //! The objects of declarations: of which kind each is, and where it stands.
 use crate::wanted::Wanted;
-use cs_diagnostics::{Done, Findings, Object, Span, Words, parts, shown};
+use cs_diagnostics::{Done, Findings, Object, Span, parts, shown};
 use cs_plan::DeclFault;
 use indexmap::{IndexMap, IndexSet};
 use serde_json::Value;
@@ -130,15 +130,6 @@ impl<'v> Entry<'v> {
         }
         Ok(())
     }
-
-    /// A fault of it, with its place as the readers of declarations tell it.
-    pub(crate) fn named(&self, alloc: Global, fault: DeclFault) -> Words {
-        let [_, place, _, _] = self.kind.texts();
-        if place.is_empty() || fault == DeclFault::BadShape {
-            return format!(in alloc; "{fault}");
-        }
-        format!(in alloc; "{fault} at {place} {}", self.index.saturating_add(1))
-    }
 }
 
 /// What is found in declarations, which are those bytes.
@@ -150,7 +141,7 @@ pub(crate) struct Tell<'w> {
 }
 
 impl Tell<'_> {
-    /// Adds a fault of an entry.
+    /// Adds a fault of an entry, with its place as the readers of declarations tell it.
     pub(crate) fn fault(
         &mut self,
         entry: &Entry<'_>,
@@ -158,8 +149,12 @@ impl Tell<'_> {
         fault: DeclFault,
         why: impl Display + Drop,
     ) -> Done {
-        let fault = entry.named(self.findings.alloc, fault)?;
-        self.findings.fault(span, format_args!("{fault}: {why}"))
+        let ([_, place, _, _], number) = (entry.kind.texts(), entry.index.saturating_add(1));
+        if place.is_empty() || fault == DeclFault::BadShape {
+            return self.findings.fault(span, format_args!("{fault}: {why}"));
+        }
+        let at = format_args!("{fault} at {place} {number}");
+        self.findings.fault(span, format_args!("{at}: {why}"))
     }
 
     /// Adds something odd of that name, where it's told.

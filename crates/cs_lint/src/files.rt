@@ -129,27 +129,6 @@ impl Found {
         self.clock.tell(&table, notes.as_slice(), &mut text)?;
         Ok(text)
     }
-
-    /// What is told of it, of files of which their readers answer that, and whether something in it
-    /// is odd.
-    fn told(
-        mut self,
-        alloc: Global,
-        request: &LintWords<'_>,
-        texts: &Texts,
-        looked: &Looked,
-        places: &[Place],
-        wanted: &Wanted<'_>,
-    ) -> Result<(Vec<u8>, bool), AllocError> {
-        if let Err(refusal) = &looked.plan {
-            self.keep(refusal)?;
-        }
-        let are_jobs = wanted.tells("") && are_jobs(alloc, texts.table.as_slice())?;
-        let text = self.text(alloc, request, texts, places, are_jobs)?;
-        let is_odd = self.table.has_oddities || self.clock.has_oddities;
-        let is_odd = is_odd || self.jobs.has_oddities || self.declared.has_oddities;
-        Ok((text, is_odd || are_jobs))
-    }
 }
 
 /// Everything that is wrong or odd in a crontab, an anacrontab and declarations, as far as there
@@ -184,6 +163,12 @@ pub(crate) fn told_of(
         commands: commands.as_slice(),
         changes: texts.changes.as_slice(),
     };
-    let found = Found::of(alloc, texts, beside, wanted)?;
-    found.told(alloc, request, texts, looked, places.as_slice(), &wanted)
+    let mut found = Found::of(alloc, texts, beside, wanted)?;
+    if let Err(refusal) = &looked.plan {
+        found.keep(refusal)?;
+    }
+    let are_jobs = wanted.tells("") && are_jobs(alloc, texts.table.as_slice())?;
+    let text = found.text(alloc, request, texts, places.as_slice(), are_jobs)?;
+    let is_odd = found.table.has_oddities || found.clock.has_oddities || found.jobs.has_oddities;
+    Ok((text, is_odd || found.declared.has_oddities || are_jobs))
 }

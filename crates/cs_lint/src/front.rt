@@ -13,38 +13,43 @@ const WORDS: &str = "@reboot @yearly @annually @monthly @weekly @daily @midnight
 /// The words that may stand in place of a period (`anacrontab(5)`).
 const PERIODS: &str = "@daily @weekly @monthly";
 
-/// A field of a schedule, what it's called, and words about the names of its numbers.
-type Field = (Part, &'static str, &'static str);
-
 /// A part of a line that stands in front of its command.
 #[derive(Clone, Copy)]
 pub(crate) enum Front {
     /// A word in place of fields.
     Word,
-    Field(Field),
+    /// A field, with words about the names of its numbers.
+    Field(Part, &'static str),
     Period,
     Delay,
     Identifier,
 }
 
-static WORD: [Front; 1] = [Front::Word];
+/// A part, and what it's called.
+pub(crate) type Named = (Front, &'static str);
 
-static FIELDS: [Front; 5] = [
-    Front::Field((Part::Minute, "minute", "")),
-    Front::Field((Part::Hour, "hour", "")),
-    Front::Field((Part::Dom, "day of the month", "")),
-    Front::Field((Part::Month, "month", ", or jan to dec")),
-    Front::Field((Part::Dow, "weekday", ", or sun to sat")),
+static WORD: [Named; 1] = [(Front::Word, "word")];
+
+static FIELDS: [Named; 5] = [
+    (Front::Field(Part::Minute, ""), "minute"),
+    (Front::Field(Part::Hour, ""), "hour"),
+    (Front::Field(Part::Dom, ""), "day of the month"),
+    (Front::Field(Part::Month, ", or jan to dec"), "month"),
+    (Front::Field(Part::Dow, ", or sun to sat"), "weekday"),
 ];
 
-static JOB: [Front; 3] = [Front::Period, Front::Delay, Front::Identifier];
+static JOB: [Named; 3] = [
+    (Front::Period, "period"),
+    (Front::Delay, "delay"),
+    (Front::Identifier, "identifier"),
+];
 
 /// A fault as its reader names it, and why it is one.
 type Wrong = (&'static str, String);
 
 impl Front {
     /// Those of a line of a table, whose first word may begin with `@`.
-    pub(crate) fn all(kind: Kind, is_word: bool) -> &'static [Front] {
+    pub(crate) fn all(kind: Kind, is_word: bool) -> &'static [Named] {
         match kind {
             Kind::Crontab if is_word => WORD.as_slice(),
             Kind::Crontab => FIELDS.as_slice(),
@@ -52,22 +57,12 @@ impl Front {
         }
     }
 
-    /// What it is called.
-    pub(crate) fn name(self) -> &'static str {
-        match self {
-            Front::Word => "word",
-            Front::Field((_, name, _)) => name,
-            Front::Period => "period",
-            Front::Delay => "delay",
-            Front::Identifier => "identifier",
-        }
-    }
-
-    /// What is wrong with it, or with one of its items, if anything is. Of an item it's given
-    /// whether nothing is wrong with those before it.
+    /// What is wrong with it, which is called that, or with one of its items, if anything is. Of an
+    /// item it's given whether nothing is wrong with those before it.
     pub(crate) fn wrong(
         self,
         alloc: Global,
+        name: &str,
         text: &[u8],
         is_first: bool,
     ) -> Result<Option<Wrong>, AllocError> {
@@ -79,9 +74,9 @@ impl Front {
                 }
                 _ => None,
             },
-            Front::Field(field) => match read_item(field.0, text) {
+            Front::Field(part, names) => match read_item(part, text) {
                 Err(fault) => {
-                    let why = item_words(alloc, field, text, fault, is_first)?;
+                    let why = item_words(alloc, part, (name, names), text, fault, is_first)?;
                     return Ok(Some((fault.text(), why)));
                 }
                 Ok(_) => None,
@@ -97,8 +92,14 @@ impl Front {
     }
 }
 
-fn item_words(alloc: Global, field: Field, item: &[u8], fault: LineFault, is_first: bool) -> Words {
-    let (part, name, names) = field;
+fn item_words(
+    alloc: Global,
+    part: Part,
+    (name, names): (&str, &str),
+    item: &[u8],
+    fault: LineFault,
+    is_first: bool,
+) -> Words {
     let (first, last) = (part.first(), part.last());
     match fault {
         LineFault::OutOfField => format!(in alloc; "the {name} is from {first} to {last}{names}"),

@@ -87,24 +87,18 @@ impl Shift {
         let (from, told) = first_apart(entries, table)?;
         let by = nearest_step(table, from, told)?;
         let shift = Shift { from, by };
-        shift.fits_all(entries, table).then_some(shift)
-    }
-
-    /// Whether each command of an entry is on the line to which it would have moved.
-    fn fits_all(self, entries: &[Entry<'_>], table: &Table<'_>) -> bool {
         for entry in entries {
             match (entry.object.whole("line"), entry.object.text("command")) {
-                (Some((number, _)), Some((told, _)))
-                    if number >= self.from && entry.names_lines() => {
-                    match table.begun_on(self.moved(number)) {
+                (Some((number, _)), Some((told, _))) if number >= from && entry.names_lines() => {
+                    match table.begun_on(shift.moved(number)) {
                         Some(begun) if begun.is(told) => {}
-                        _ => return false,
+                        _ => return None,
                     }
                 }
                 _ => {}
             }
         }
-        true
+        Some(shift)
     }
 
     fn moved(self, number: i128) -> i128 {
@@ -115,8 +109,8 @@ impl Shift {
     fn words(self, alloc: Global) -> Words {
         let (from, way) = (self.from, if self.by > 0 { "down" } else { "up" });
         let far = match self.by.unsigned_abs() {
-            1 => format!(in alloc; "one")?,
-            2 => format!(in alloc; "two")?,
+            1 => String::from_str(alloc, "one")?,
+            2 => String::from_str(alloc, "two")?,
             far => format!(in alloc; "{far}")?,
         };
         let advice = "correct each \"line\", as 'cronsafe draft --update' does";
@@ -165,8 +159,11 @@ impl<'v> Declared<'v> {
 
     fn look_at_name(&mut self, entry: &Entry<'v>, shift: Option<Shift>, table: &Table<'_>) -> Done {
         let line = line_of(entry, shift, table);
-        let number = line.and_then(|(line, _)| u64::try_from(line).ok());
-        self.tell.findings.about = Some(number.unwrap_or(0));
+        let (number, begun) = match line {
+            Some((line, _)) => (u64::try_from(line).unwrap_or(0), table.begun_on(line)),
+            None => (0, None),
+        };
+        self.tell.findings.about = Some(number);
         if let Some((line, span)) = line {
             if entry.kind == Kind::LeftOut {
                 self.left_out.insert(line)?;
@@ -183,7 +180,7 @@ impl<'v> Declared<'v> {
         } else if shift.is_none() || entry.apart(table).is_none() {
             self.find_apart(entry, table, None)?;
         }
-        match line.and_then(|(line, _)| table.begun_on(line)) {
+        match begun {
             Some(begun) => self.look_beside(entry, begun, table),
             None => Ok(()),
         }
@@ -226,9 +223,13 @@ impl<'v> Declared<'v> {
                     .fault(entry, span, DeclFault::NoSuchLine, why.as_str())
             }
             (Some(begun), Some((told, span))) if !begun.may_be(told) => {
-                let is = begun.name.unwrap_or(&[]);
-                let why = other_words(alloc, line, is, told.as_bytes())?;
+                let (is, told) = (begun.name.unwrap_or(&[]), told.as_bytes());
+                let from = first_apart_word(is, told);
+                let dots = if from == 0 { "" } else { "... " };
+                let is = shown(alloc, &is[from.min(is.len())..])?;
+                let told = shown(alloc, &told[from.min(told.len())..])?;
                 let advice = advice.unwrap_or("correct \"line\" or \"command\"");
+                let why = format_args!("line {line} has `{dots}{is}`, not `{dots}{told}`");
                 let why = format_args!("{why}: {advice}");
                 self.tell.fault(entry, span, DeclFault::OtherCommand, why)
             }
@@ -292,12 +293,12 @@ impl<'v> Declared<'v> {
     fn find_unbound(&mut self, entries: &[Entry<'v>]) -> Done {
         let (mut first, mut number, mut is_any_bound) = (None, 0usize, false);
         for entry in entries {
-            if entry.names_lines() && entry.object.has("command") {
+            if !entry.names_lines() {
+                continue;
+            }
+            if entry.object.has("command") {
                 is_any_bound = true;
-            } else if let (true, Some((_, span))) = (
-                entry.names_lines(),
-                entry.object.whole("line"),
-            ) {
+            } else if let Some((_, span)) = entry.object.whole("line") {
                 first = if number == 0 { Some(span) } else { first };
                 number = number.saturating_add(1);
             }
@@ -345,16 +346,6 @@ fn lineless_words(alloc: Global, table: &Table<'_>, line: i128, advice: Option<&
         (None, Some(near)) => format!(in alloc; "{lack}: did you mean line {near}?"),
         (None, None) => format!(in alloc; "the crontab has no commands: remove this entry"),
     }
-}
-
-/// Both commands, from the first word on in which they differ; from their beginnings where it isn't
-/// far off.
-fn other_words(alloc: Global, line: i128, is: &[u8], told: &[u8]) -> Words {
-    let from = first_apart_word(is, told);
-    let dots = if from == 0 { "" } else { "... " };
-    let is = shown(alloc, &is[from.min(is.len())..])?;
-    let told = shown(alloc, &told[from.min(told.len())..])?;
-    format!(in alloc; "line {line} has `{dots}{is}`, not `{dots}{told}`")
 }
 
 /// The byte at which the first word begins in which two commands differ; 0 where it isn't far off.

@@ -28,31 +28,20 @@ fn is_uneven(field: &[u8], round: u32) -> bool {
     rest.is_empty() && step != 0 && round % step != 0
 }
 
-/// The byte at which the first `%` stands that no backslash escapes; the end where there is none.
-fn percent_in(command: &[u8]) -> usize {
-    let mut is_escaped = false;
+/// The byte at which the first `%` stands that no backslash escapes, or the end; and in front of it
+/// the last `#` behind a blank, if no quote, backquote or backslash stands behind it.
+fn ends_in(command: &[u8]) -> (usize, Option<usize>) {
+    let (mut comment, mut last) = (None, 0u8);
     for (at, byte) in command.iter().enumerate() {
-        if *byte == b'%' && !is_escaped {
-            return at;
-        }
-        is_escaped = *byte == b'\\';
-    }
-    command.len()
-}
-
-/// The byte at which the last `#` behind a blank stands, if no quote, backquote or backslash stands
-/// behind it.
-fn comment_in(text: &[u8]) -> Option<usize> {
-    let (mut found, mut is_behind_blank) = (None, false);
-    for (at, byte) in text.iter().enumerate() {
         match *byte {
-            b'#' if is_behind_blank => found = Some(at),
-            b'"' | b'\'' | b'`' | b'\\' => found = None,
+            b'%' if last != b'\\' => return (at, comment),
+            b'#' if is_blank(last) => comment = Some(at),
+            b'"' | b'\'' | b'`' | b'\\' => comment = None,
             _ => {}
         }
-        is_behind_blank = is_blank(*byte);
+        last = *byte;
     }
-    found
+    (command.len(), comment)
 }
 
 /// Whether a `$` stands in front of a name or a `{`, and whether a `#` stands behind a blank.
@@ -137,14 +126,13 @@ pub(crate) fn odd_fields(line: &[u8]) -> [Oddity; 5] {
 /// What may be odd in the command of a line.
 pub(crate) fn odd_command(line: &[u8], command: &[u8]) -> [Oddity; 4] {
     let (len, start) = (line.len(), line.len().saturating_sub(command.len()));
-    let percent = percent_in(command);
+    let (percent, comment) = ends_in(command);
     let text = Span::of(0, percent).bytes(command);
     let front = trim_end(text);
     let is_background = front.ends_with(b"&".as_slice())
         && !front.ends_with(b"&&".as_slice())
         && !front.ends_with(b"\\&".as_slice())
         && !front.contains(&b'#');
-    let comment = comment_in(text);
     [
         (
             percent < command.len(),

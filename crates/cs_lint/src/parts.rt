@@ -94,8 +94,11 @@ fn find_new(
 ) -> Done {
     let (alloc, line) = (tell.findings.alloc, place.line);
     for part in place.parts.as_slice().iter() {
-        let name = str::from_utf8(part.as_slice());
-        if !name.is_ok_and(|name| names.contains_key(name)) {
+        let is_declared = match str::from_utf8(part.as_slice()) {
+            Ok(name) => names.contains_key(name),
+            Err(_) => false,
+        };
+        if !is_declared {
             let name = shown(alloc, part.as_slice())?;
             let words = format_args!(
                 "line {line} has a part \"{name}\" that isn't declared: add it"

@@ -5,24 +5,21 @@ use cs_place::{Place, is_mark_name, push_place_text, push_places};
 use cs_table::MAX_TABLE;
 use std::alloc::{AllocError, Global};
 
-/// Whether a line sets what marks a table as gathered.
-fn has_mark(bytes: &[u8]) -> bool {
-    for line in bytes.split(|byte| *byte == b'\n') {
-        if let Ok(Entry::Setting(name, _)) = read_line(line) {
-            if is_mark_name(name) {
-                return true;
-            }
-        }
-    }
-    false
-}
-
 /// The places of the lines of a table, as its comments give them, if it's gathered; one with a fault
 /// too, if one of the lines that can be read sets the mark.
 pub(crate) fn places_in(alloc: Global, bytes: &[u8]) -> Result<Vec<Place>, AllocError> {
     let mut places = Vec::new(alloc);
-    if bytes.len() <= MAX_TABLE && has_mark(bytes) {
-        push_places(alloc, &mut places, bytes)?;
+    if bytes.len() > MAX_TABLE {
+        return Ok(places);
+    }
+    for line in bytes.split(|byte| *byte == b'\n') {
+        match read_line(line) {
+            Ok(Entry::Setting(name, _)) if is_mark_name(name) => {
+                push_places(alloc, &mut places, bytes)?;
+                return Ok(places);
+            }
+            _ => {}
+        }
     }
     Ok(places)
 }

@@ -78,11 +78,12 @@ impl Held {
         }
     }
 
-    /// Whether a command above locks its file in another group, and whether one above in its group
-    /// locks another file.
-    fn is_mixed(&self, all: &[Held]) -> (bool, bool) {
-        let (mut has_groups, mut has_files) = (false, false);
+    /// Whether a command above locks its file in another group, whether one above in its group locks
+    /// another file, and whether any takes a lock itself.
+    fn beside(&self, all: &[Held]) -> (bool, bool, bool) {
+        let (mut has_groups, mut has_files, mut is_any_locked) = (false, false, false);
         for other in all {
+            is_any_locked = is_any_locked || other.own.is_some();
             match (self.group, other.group, &self.own, &other.own) {
                 (Some(a), Some(b), Some((own, _)), Some((others, _)))
                     if other.number < self.number => {
@@ -93,20 +94,7 @@ impl Held {
                 _ => {}
             }
         }
-        (has_groups, has_files)
-    }
-
-    /// Whether one of all commands takes a lock itself, where this takes none and is declared to.
-    fn lacks_lock(&self, all: &[Held]) -> bool {
-        if !self.is_bare || !self.mode.takes_lock() {
-            return false;
-        }
-        for other in all {
-            if other.own.is_some() {
-                return true;
-            }
-        }
-        false
+        (has_groups, has_files, is_any_locked)
     }
 
     /// Adds what is odd about it among all, where it stands.
@@ -122,7 +110,7 @@ impl Held {
             self.group.is_some(),
             self.other_mode(),
         );
-        let (has_groups, has_files) = self.is_mixed(all);
+        let (has_groups, has_files, is_any_locked) = self.beside(all);
         let oddities = [
             (
                 has_own && !has_group,
@@ -145,7 +133,7 @@ impl Held {
                 "a command above in its group locks another file: have both lock one file",
             ),
             (
-                self.lacks_lock(all),
+                is_any_locked && self.is_bare && self.mode.takes_lock(),
                 "NoOwnLock",
                 "only 'cronsafe run' takes its lock, while others use flock: put flock before it",
             ),

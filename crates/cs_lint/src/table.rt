@@ -62,31 +62,6 @@ impl<'a> Begun<'a> {
     pub(crate) fn may_be(&self, command: &str) -> bool {
         self.name.is_none() || self.is(command)
     }
-
-    /// Adds that it has no entry, or can't be in a plan.
-    fn find_misfit(&self, findings: &mut Findings, declared: &Declared<'_>) -> Done {
-        let (number, line) = (self.number, i128::from(self.number));
-        let is_kept = declared.has_all_left_out && !declared.left_out.contains(&line);
-        let is_lacking = declared.has_all_lines && !declared.lines.contains(&line);
-        let has_all_jobs = declared.has_all_identifiers;
-        let (fault, why) = match (&self.when, self.name) {
-            (None, Some(name)) if has_all_jobs && !declared.identifiers.contains(name) => {
-                let (fault, name) = (DeclFault::Undeclared, shown(findings.alloc, name)?);
-                let why = "\"anacron\" has no entry for this job: add one";
-                return findings.fault(self.place, format_args!("{fault} at job {name}: {why}"));
-            }
-            (Some(When::Reboot), _) if is_kept => {
-                let why = "put it into \"left_out\": outages would start it without bound";
-                (DeclFault::RebootLine, why)
-            }
-            (Some(When::At(_)), _) if is_lacking => {
-                let why = "\"cron\" has no entry for this line: add one";
-                (DeclFault::Undeclared, why)
-            }
-            _ => return Ok(()),
-        };
-        findings.fault(self.place, format_args!("{fault} at line {number}: {why}"))
-    }
 }
 
 /// A table that is looked at.
@@ -262,11 +237,11 @@ impl<'a> Table<'a> {
 
     fn find_in_parts(&mut self) -> Done {
         let mut word = word_from(self.line, 0);
-        for front in Front::all(self.kind, is_word_line(self.line)) {
+        for (front, name) in Front::all(self.kind, is_word_line(self.line)) {
             if word.is_empty() {
-                return self.find_missing(front.name());
+                return self.find_missing(name);
             }
-            self.find_in(*front, word)?;
+            self.find_in(*front, name, word)?;
             word = word_from(self.line, word.to);
         }
         if word.is_empty() {
@@ -289,12 +264,12 @@ impl<'a> Table<'a> {
         self.fault(end, LineFault::MissingField.text(), why)
     }
 
-    fn find_in(&mut self, front: Front, word: Span) -> Done {
+    fn find_in(&mut self, front: Front, name: &str, word: Span) -> Done {
         let mut from = word.from;
-        let (has_items, mut is_first) = (matches!(front, Front::Field(_)), true);
+        let (has_items, mut is_first) = (matches!(front, Front::Field(_, _)), true);
         let text = word.bytes(self.line);
         for item in text.split(|byte| has_items && *byte == b',') {
-            if let Some((fault, why)) = front.wrong(self.findings.alloc, item, is_first)? {
+            if let Some((fault, why)) = front.wrong(self.findings.alloc, name, item, is_first)? {
                 is_first = false;
                 self.fault(Span::of(from, item.len()), fault, why.as_str())?;
             }
@@ -460,10 +435,33 @@ impl<'a> Table<'a> {
         }
     }
 
-    /// Adds what doesn't fit the declarations.
+    /// Adds which commands or jobs have no entry, or can't be in a plan.
     pub(crate) fn find_beside(&mut self, declared: &Declared<'_>) -> Done {
         for begun in self.begun.iter() {
-            begun.find_misfit(&mut self.findings, declared)?;
+            let (number, line) = (begun.number, i128::from(begun.number));
+            let is_kept = declared.has_all_left_out && !declared.left_out.contains(&line);
+            let is_lacking = declared.has_all_lines && !declared.lines.contains(&line);
+            let has_all_jobs = declared.has_all_identifiers;
+            let (fault, why) = match (&begun.when, begun.name) {
+                (None, Some(name)) if has_all_jobs && !declared.identifiers.contains(name) => {
+                    let (fault, name) = (DeclFault::Undeclared, shown(self.findings.alloc, name)?);
+                    let why = "\"anacron\" has no entry for this job: add one";
+                    let words = format_args!("{fault} at job {name}: {why}");
+                    self.findings.fault(begun.place, words)?;
+                    continue;
+                }
+                (Some(When::Reboot), _) if is_kept => {
+                    let why = "put it into \"left_out\": outages would start it without bound";
+                    (DeclFault::RebootLine, why)
+                }
+                (Some(When::At(_)), _) if is_lacking => {
+                    let why = "\"cron\" has no entry for this line: add one";
+                    (DeclFault::Undeclared, why)
+                }
+                _ => continue,
+            };
+            let words = format_args!("{fault} at line {number}: {why}");
+            self.findings.fault(begun.place, words)?;
         }
         Ok(())
     }

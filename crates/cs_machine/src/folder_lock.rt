@@ -4,7 +4,7 @@ use std::fs::{File, TryLockError};
 use std::rt::Files;
 
 /// Why a folder can't be locked.
-#[derive(Clone, Copy, PartialEq, Eq)]
+#[derive(Clone, Copy)]
 pub enum LockFault {
     /// Another has locked it.
     InUse,

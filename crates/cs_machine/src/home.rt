@@ -1,7 +1,7 @@
 //! The user whose commands are run, and the user's folder.
-ghost use Rattle.std.specs.Prelude.{◌≡◌, IfOk, length, option_map};
+ghost use Rattle.std.specs.Prelude.{◌≡◌, IfOk, option_map};
 ghost use Rattle.std.specs.List.{find};
-ghost use Rattle.cs_machine.specs.Home.{fields_of, home_of, home_on, is_entry_of};
+ghost use Rattle.cs_machine.specs.Home.{home_of, home_on, is_entry_of};
 ghost use Rattle.cs_machine.specs.Home.{lines_of};
 
 use crate::pieces::piece;
@@ -15,8 +15,8 @@ use std::rt::Files;
 /// A user's name and folder, as `/etc/passwd` has them (passwd(5)).
 #[derive(Drop)]
 pub struct Home {
-    user: Bytes,
-    folder: Bytes,
+    pub(crate) user: Bytes,
+    pub(crate) folder: Bytes,
 }
 
 /// The most bytes of the users' entries that are read: a mebibyte.
@@ -47,20 +47,6 @@ impl Home {
         let user = fs::metadata(rt, "/proc/self").ok()?.uid();
         let text = read_first(rt, alloc, "/etc/passwd", MOST).ok()?;
         home_of(alloc, user, text.as_slice()).ok()?
-    }
-
-    /// Returns the user's name.
-    pub fn user(&self) -> &[u8]
-        ensures { result.now ≡ self.now.user }
-    {
-        self.user.as_slice()
-    }
-
-    /// Returns the user's folder.
-    pub fn folder(&self) -> &[u8]
-        ensures { result.now ≡ self.now.folder }
-    {
-        self.folder.as_slice()
     }
 }
 
@@ -101,17 +87,11 @@ fn entry_of<'t>(number: &[u8], text: &'t [u8]) -> Option<&'t [u8]>
 fn is_entry_of(number: &[u8], line: &[u8]) -> bool
     ensures { result ≡ is_entry_of number.now line.now }
 {
-    if field_count(line) != FIELDS {
+    let (Some(_), None) = (piece(line, COLON, FIELDS - 1), piece(line, COLON, FIELDS)) else {
         return false;
-    }
+    };
     match piece(line, COLON, NUMBER) {
         Some(field) => field == number,
         None => false,
     }
-}
-
-fn field_count(line: &[u8]) -> usize
-    ensures { result ≡ length (fields_of line.now) }
-{
-    line.split(|byte| *byte == COLON).count()
 }

@@ -1,9 +1,9 @@
 //! Commands that are called when something has happened.
-ghost use Rattle.std.specs.Prelude.{◌≡◌, ℕ, List, [], None, Some, IfOk, OnOk, string_bytes};
+ghost use Rattle.std.specs.Prelude.{◌≡◌, ℕ, List, None, Some, IfOk, OnOk, string_bytes};
 ghost use Rattle.std.specs.Prelude.{codes, option_map, if◌then◌else◌, false};
 ghost use Rattle.std.specs.Str.{bytes_eq};
 ghost use Rattle.std.specs.Process.{command_program, command_args, command_var, command_dir};
-ghost use Rattle.std.specs.Process.{clears_env, SameProgramAndArgs, SameDir, SameEnv};
+ghost use Rattle.std.specs.Process.{clears_env, SameProgramAndArgs, SameDir};
 ghost use Rattle.cs_machine.specs.Hook.{hook_value, hook_words, readable};
 
 use std::alloc::{AllocError, Global};
@@ -51,25 +51,12 @@ fn hook_command(
     ensures folder { IfOk result (λ c. command_dir c ≡ None) }
 {
     let mut shell = Command::new(alloc, "/bin/sh")?;
-    add_words(&mut shell, command)?;
-    set_all(alloc, &mut shell, variables)?;
-    Ok(shell)
-}
-
-/// Adds the words of a shell that starts a command in the background. The only error is out of
-/// memory.
-fn add_words(shell: &mut Command, command: &str) -> Result<(), AllocError>
-    requires { command_args shell.old ≡ [] }
-    ensures words { OnOk result (command_args shell.new ≡ hook_words command.now) }
-    ensures program { OnOk result (command_program shell.new ≡ command_program shell.old) }
-    ensures variables { OnOk result (SameEnv shell.old shell.new) }
-    ensures folder { OnOk result (SameDir shell.old shell.new) }
-{
     shell.arg("-c")?;
     shell.arg(CALL)?;
     shell.arg("sh")?;
     shell.arg(command)?;
-    Ok(())
+    set_all(alloc, &mut shell, variables)?;
+    Ok(shell)
 }
 
 /// Sets variables, one after the other. The only error is out of memory.

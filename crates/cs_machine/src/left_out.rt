@@ -22,10 +22,13 @@ fn outage_in(words: &[u8]) -> Option<(Minute, Minute)> {
 /// Of how many jobs the line is due at this minute.
 fn due_count(jobs: &[JobNote], minute: Minute) -> u64 {
     let kind = kind_of(minute.day());
-    let minute_of_day = minute.minute_of_day();
-    jobs.iter()
-        .filter(|note| is_due_on(note, kind, minute_of_day))
-        .count() as u64
+    let mut count = 0u64;
+    for note in jobs {
+        if is_due_on(note, kind, minute.minute_of_day()) {
+            count = count.saturating_add(1);
+        }
+    }
+    count
 }
 
 /// How many runs of these jobs' lines the outage that a line tells leaves out: those that are due

@@ -98,18 +98,6 @@ impl<'r, R: time::Clock, A: Attendant> MachineClock<'r, R, A> {
         self.offset
     }
 
-    /// The clock's first answer.
-    fn begin(&mut self) -> Tick
-        ensures resumed { IfSome self.old.latest
-            (λ minute. result ≡ shown self.old.limit self.old.first minute) }
-        ensures told { self.new.told ≡ self.old.told }
-    {
-        match self.latest {
-            Some(minute) => self.show(minute),
-            None => self.look(),
-        }
-    }
-
     /// The clock's answer after a second.
     fn wait(&mut self) -> Tick
         ensures { self.new.told ≡ self.old.told }
@@ -183,13 +171,14 @@ impl<'r, R: time::Clock, A: Attendant> MachineClock<'r, R, A> {
         ensures first { self.new
             ≡ record self.old { first = Some (unwrap_or self.old.first minute) } }
     {
-        match (self.first, self.limit) {
-            (None, _) => {
-                self.first = Some(minute);
-                Tick::At(minute)
-            }
-            (Some(first), Some(limit)) if has_passed(limit, first, minute) => Tick::Stop,
-            (Some(_), _) => Tick::At(minute),
+        let Some(first) = self.first else {
+            self.first = Some(minute);
+            return Tick::At(minute);
+        };
+        match self.limit {
+            // none have passed if the clock went back
+            Some(limit) if limit <= minute.number().saturating_sub(first.number()) => Tick::Stop,
+            _ => Tick::At(minute),
         }
     }
 }
@@ -247,13 +236,6 @@ pub(crate) fn minute_after(seconds: u64, offset: i16) -> Option<Minute>
     minute_at(i64::try_from(seconds).ok()?, offset).ok()
 }
 
-/// Whether this many minutes have passed since the first one. None have if the clock went back.
-fn has_passed(limit: u64, first: Minute, minute: Minute) -> bool
-    ensures { IsTrue result ↔ (limit ≤ minute - first) }
-{
-    limit <= minute.number().saturating_sub(first.number())
-}
-
 impl<'r, R: time::Clock, A: Attendant> Clock for MachineClock<'r, R, A> {
     ghost last = { λ c. c.told.last };
 
@@ -273,10 +255,10 @@ impl<'r, R: time::Clock, A: Attendant> Clock for MachineClock<'r, R, A> {
         ensures risen { self.new.told.risen
             ≡ self.old.told.risen + risen_by self.old.told.top result }
     {
-        let tick = if now.is_some() {
-            self.wait()
-        } else {
-            self.begin()
+        let tick = match (now, self.latest) {
+            (Some(_), _) => self.wait(),
+            (None, Some(minute)) => self.show(minute),
+            (None, None) => self.look(),
         };
         self.told.tell(tick)
     }

@@ -33,9 +33,12 @@ pub(crate) fn is_due_on(note: &JobNote, kind: DayKind, minute_of_day: u16) -> bo
 /// The first job whose line is due at this minute.
 fn due_at<'a>(jobs: &'a [JobNote], minute: Minute) -> Option<&'a JobNote> {
     let kind = kind_of(minute.day());
-    let minute_of_day = minute.minute_of_day();
-    jobs.iter()
-        .find(|note| is_due_on(note, kind, minute_of_day))
+    for note in jobs {
+        if is_due_on(note, kind, minute.minute_of_day()) {
+            return Some(note);
+        }
+    }
+    None
 }
 
 /// What is due first from one minute on and before another.

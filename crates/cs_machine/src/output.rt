@@ -1,7 +1,7 @@
 //! A folder in which the output of each run has a file of its own.
 ghost use Rattle.std.specs.Prelude.{◌≡◌, ◌++◌, Some, drop, string_bytes};
 ghost use Rattle.std.specs.Prelude.{IfOk, OnOk, length, take, true, ◌+◌};
-ghost use Rattle.cs_machine.specs.Output.{AreFirst, AreOld, AreOthers, is_moment, is_of_job};
+ghost use Rattle.cs_machine.specs.Output.{AreOld, AreOthers, is_moment};
 ghost use Rattle.cs_machine.specs.Output.{is_other_of, output_name, output_text, zeroed};
 
 use crate::paths::{file_name, path_in};
@@ -9,7 +9,7 @@ use crate::pieces::piece;
 use crate::start_text::push_place;
 use cs_civil::Bytes;
 use std::alloc::{AllocError, Global};
-use std::fs::{DirEntry, OpenFile, OpenOptions};
+use std::fs::{OpenFile, OpenOptions};
 use std::io::ErrorKind;
 use std::rt::Files;
 use std::{fs, io};
@@ -19,23 +19,22 @@ use std::{fs, io};
 /// and are in the order of their minutes.
 #[derive(Drop)]
 pub struct OutputFolder {
-    path: String,
+    pub(crate) path: String,
     keep: u64,
 }
 
 /// The shape of the moment in front of a file's name, with `0` for each digit.
 const SHAPE: &[u8] = b"0000-00-00T00:00";
 
-/// The name of a run's file. None if the run's name isn't like `line 3 due 2024-09-13 23:30`. The
-/// only error is out of memory.
-fn output_name(alloc: Global, run: &[u8]) -> Result<Option<Bytes>, AllocError>
-    ensures { IfOk result (λ name. name ≡ output_name run.now) }
+/// The name of a run's file. An error too if the run's name isn't like `line 3 due 2024-09-13 23:30`.
+fn output_name(alloc: Global, run: &[u8]) -> io::Result<Bytes>
+    ensures { IfOk result (λ name. output_name run.now ≡ Some name) }
 {
     let (Some(day), Some(time)) = (piece(run, b' ', 3), piece(run, b' ', 4)) else {
-        return Ok(None);
+        return Err(io::Error::from(ErrorKind::InvalidInput));
     };
     let (Some(kind), Some(job)) = (piece(run, b' ', 0), piece(run, b' ', 1)) else {
-        return Ok(None);
+        return Err(io::Error::from(ErrorKind::InvalidInput));
     };
     let mut name = Vec::from_slice(alloc, day)?;
     name.push(b'T')?;
@@ -44,7 +43,7 @@ fn output_name(alloc: Global, run: &[u8]) -> Result<Option<Bytes>, AllocError>
     name.extend_from_slice(kind)?;
     name.push(b'-')?;
     name.extend_from_slice(job)?;
-    Ok(Some(Bytes::from_vec(name)))
+    Ok(Bytes::from_vec(name))
 }
 
 /// A byte, or `0` for a digit.
@@ -69,31 +68,24 @@ fn is_moment(text: &[u8]) -> bool
     true
 }
 
-/// The moment in a file's name, and what stands behind it.
-fn parts(name: &[u8]) -> (&[u8], &[u8])
-    ensures moment { result.0.now ≡ take 16 name.now }
-    ensures behind { result.1.now ≡ drop 16 name.now }
+/// The first bytes of a text, so many, and what stands behind them.
+fn parts(text: &[u8], count: usize) -> (&[u8], &[u8])
+    ensures front { result.0.now ≡ take count text.now }
+    ensures behind { result.1.now ≡ drop count text.now }
 {
-    match name.split_at_checked(SHAPE.len()) {
+    match text.split_at_checked(count) {
         Some(parts) => parts,
-        None => (name, b"".as_slice()),
+        None => (text, b"".as_slice()),
     }
-}
-
-/// Whether a name is that of a file of the same job.
-fn is_of_job(file: &[u8], name: &[u8]) -> bool
-    ensures { result ≡ is_of_job file.now name.now }
-{
-    let (moment, behind) = parts(name);
-    let (_, wanted) = parts(file);
-    is_moment(moment) && behind == wanted
 }
 
 /// Whether a name is that of another file of the same job.
 fn is_other_of(file: &[u8], name: &[u8]) -> bool
     ensures { result ≡ is_other_of file.now name.now }
 {
-    name != file && is_of_job(file, name)
+    let (moment, behind) = parts(name, SHAPE.len());
+    let (_, wanted) = parts(file, SHAPE.len());
+    name != file && is_moment(moment) && behind == wanted
 }
 
 /// Adds a name, if it is that of another file of the same job. The only error is out of memory.
@@ -115,23 +107,8 @@ fn add_other(
     Ok(())
 }
 
-/// Adds the name of an entry of a folder, if it is that of another file of the same job. One that
-/// can't be read or isn't UTF-8 isn't. The only error is out of memory.
-fn add_entry<R: Files>(
-    alloc: Global,
-    names: &mut Vec<String>,
-    file: &[u8],
-    entry: io::Result<DirEntry<(&R, Global)>>,
-) -> Result<(), AllocError>
-    ensures { AreOthers file.now names.old.items → AreOthers file.now names.new.items }
-{
-    match entry {
-        Ok(entry) => add_other(alloc, names, file, entry.file_name()),
-        Err(_) => Ok(()),
-    }
-}
-
-/// Adds the names of a folder's other files of the job of this file.
+/// Adds the names of a folder's other files of the job of this file. One that can't be read or isn't
+/// UTF-8 isn't.
 fn add_others<R: Files>(
     rt: &R,
     alloc: Global,
@@ -142,17 +119,10 @@ fn add_others<R: Files>(
     ensures { AreOthers file.now names.old.items → AreOthers file.now names.new.items }
 {
     for entry in fs::read_dir(&(rt, alloc), folder)? {
-        add_entry(alloc, names, file, entry)?;
+        if let Ok(entry) = entry {
+            add_other(alloc, names, file, entry.file_name())?;
+        }
     }
-    Ok(())
-}
-
-/// Puts names in order, and leaves out the last ones, so many. The only error is out of memory.
-fn keep_first(names: &mut Vec<String>, left: u64) -> Result<(), AllocError>
-    ensures { OnOk result (AreFirst left names.old.items names.new.items) }
-{
-    names.sort()?;
-    names.truncate((names.len() as u64).saturating_sub(left) as usize);
     Ok(())
 }
 
@@ -160,10 +130,12 @@ fn keep_first(names: &mut Vec<String>, left: u64) -> Result<(), AllocError>
 /// isn't opened: a pipe would keep the daemon waiting.
 fn open_twice<R: Files>(rt: &R, path: &str) -> io::Result<(R::File, R::File)> {
     match fs::symlink_metadata(rt, path) {
-        Ok(found) if found.is_file() => {}
-        Ok(_) => return Err(io::Error::new(ErrorKind::InvalidInput, "no regular file is there")),
-        Err(error) if error.kind() == ErrorKind::NotFound => {}
-        Err(error) => return Err(error),
+        Ok(found) => if !found.is_file() {
+            return Err(io::Error::new(ErrorKind::InvalidInput, "no regular file is there"));
+        },
+        Err(error) => if error.kind() != ErrorKind::NotFound {
+            return Err(error);
+        },
     }
     let file = OpenOptions::new().append(true).create(true).open(rt, path)?;
     let other = file.try_clone()?;
@@ -181,20 +153,15 @@ impl OutputFolder {
         Ok(OutputFolder { path, keep })
     }
 
-    /// Returns the folder's path.
-    pub(crate) fn path(&self) -> &str
-        ensures { result.now ≡ string_bytes self.now.path }
-    {
-        self.path.as_str()
-    }
-
     /// The names of the files that are removed before this one is opened.
     fn old<R: Files>(&self, rt: &R, alloc: Global, file: &[u8]) -> io::Result<Vec<String>>
         ensures { IfOk result (λ names. AreOld file.now self.now.keep names.items) }
     {
         let mut names = Vec::new(alloc);
         add_others(rt, alloc, &mut names, self.path.as_str(), file)?;
-        keep_first(&mut names, self.keep.saturating_sub(1))?;
+        names.sort()?;
+        let left = self.keep.saturating_sub(1);
+        names.truncate((names.len() as u64).saturating_sub(left) as usize);
         Ok(names)
     }
 
@@ -212,16 +179,6 @@ impl OutputFolder {
         Ok(())
     }
 
-    /// The name of a run's file. An error too if the run's name gives none.
-    fn name_of(alloc: Global, run: &[u8]) -> io::Result<Bytes>
-        ensures { IfOk result (λ name. output_name run.now ≡ Some name) }
-    {
-        match output_name(alloc, run)? {
-            Some(name) => Ok(name),
-            None => Err(io::Error::from(ErrorKind::InvalidInput)),
-        }
-    }
-
     /// Opens the file of a run for appending, twice, once its job's oldest files are removed, so that
     /// with it at most so many are left as are kept. What can't be listed or removed stays.
     pub(crate) fn open<R: Files>(
@@ -230,7 +187,7 @@ impl OutputFolder {
         alloc: Global,
         run: &[u8],
     ) -> io::Result<(R::File, R::File)> {
-        let name = OutputFolder::name_of(alloc, run)?;
+        let name = output_name(alloc, run)?;
         let path = self.path_of(alloc, name.as_slice())?;
         let _ = self.make_room(rt, alloc, name.as_slice());
         open_twice(rt, path.as_str())

@@ -32,15 +32,15 @@ const SECONDS: u64 = 120;
 fn read_moment(text: &[u8]) -> Option<u64>
     ensures { IfSome result (λ at. text.now ≡ moment_text at) }
 {
-    if text.len() != 20 {
+    let (front, behind) = text.split_at_checked(16)?;
+    let [_, tens, ones, _] = behind else {
         return None;
-    }
-    let minute = [
-        text[0], text[1], text[2], text[3], text[4], text[5], text[6], text[7], text[8], text[9],
-        b' ', text[11], text[12], text[13], text[14], text[15],
-    ];
+    };
+    let mut minute = [b' '; 16];
+    minute.copy_from_slice(front);
+    minute[10] = b' ';
     let minute = read_minute(&minute).ok()?;
-    let (tens, ones) = (text[17].checked_sub(b'0')?, text[18].checked_sub(b'0')?);
+    let (tens, ones) = (tens.checked_sub(b'0')?, ones.checked_sub(b'0')?);
     let at = minute.number() * 60 + u64::from(tens) * 10 + u64::from(ones);
     let moment = moment_text(at)?;
     if text == moment.as_slice() {
@@ -67,50 +67,54 @@ fn plain_text(value: &Value) -> Result<&str, Misread>
     }
 }
 
-/// Such a text; none where it is null.
-fn text_or_null(value: &Value) -> Result<Option<&str>, Misread> {
-    if value.is_null() {
+/// Such a text; none where it is null or, as a daemon of an earlier version tells it, no member.
+fn text_if_told(told: Option<&Value>) -> Result<Option<&str>, Misread> {
+    let Some(told) = told else {
+        return Ok(None);
+    };
+    if told.is_null() {
         return Ok(None);
     }
-    Ok(Some(plain_text(value)?))
+    Ok(Some(plain_text(told)?))
 }
 
-/// Such a text; none where it is null or, as a daemon of an earlier version tells it, no member.
-fn text_if_told<'v>(value: &'v Value, name: &str) -> Result<Option<&'v str>, Misread> {
-    match value.get(name) {
-        Some(told) => text_or_null(told),
-        None => Ok(None),
-    }
+/// Such a text that is a member.
+fn text_at<'v>(value: &'v Value, name: &str) -> Result<&'v str, Misread> {
+    plain_text(value_at(value, name)?)
 }
 
-/// The seconds of a moment.
-fn seconds_of(moment: &str) -> Result<u64, Misread> {
-    read_moment(moment.as_bytes()).ok_or(BAD_SHAPE)
+/// The seconds of a moment that is a member.
+fn seconds_at(value: &Value, name: &str) -> Result<u64, Misread> {
+    read_moment(text_at(value, name)?.as_bytes()).ok_or(BAD_SHAPE)
 }
 
 /// The seconds of a moment, if there is one.
 fn seconds_if_told(moment: Option<&str>) -> Result<Option<u64>, Misread> {
-    match moment {
-        Some(moment) => Ok(Some(seconds_of(moment)?)),
-        None => Ok(None),
+    let Some(moment) = moment else {
+        return Ok(None);
+    };
+    match read_moment(moment.as_bytes()) {
+        Some(at) => Ok(Some(at)),
+        None => Err(BAD_SHAPE),
     }
 }
 
-/// Whether a text is that of a SHA-256: 64 hexadecimal digits, in lower case.
-fn is_checksum(text: &[u8]) -> bool {
+/// Refuses a checksum of the certificate that isn't 64 hexadecimal digits, in lower case. A daemon of
+/// an earlier version tells none.
+fn see_checksum(value: &Value) -> Result<(), Misread> {
+    let Some(told) = value.get("certificate_sha256") else {
+        return Ok(());
+    };
+    let text = plain_text(told)?.as_bytes();
     for byte in text {
         if !matches!(*byte, b'0'..=b'9' | b'a'..=b'f') {
-            return false;
+            return Err(BAD_SHAPE);
         }
     }
-    text.len() == 64
-}
-
-/// Refuses a checksum of the certificate that is none. A daemon of an earlier version tells none.
-fn see_checksum(value: &Value) -> Result<(), Misread> {
-    match value.get("certificate_sha256") {
-        Some(told) if !is_checksum(plain_text(told)?.as_bytes()) => Err(BAD_SHAPE),
-        _ => Ok(()),
+    if text.len() == 64 {
+        Ok(())
+    } else {
+        Err(BAD_SHAPE)
     }
 }
 
@@ -133,19 +137,6 @@ fn push_told(lines: &mut Vec<u8>, texts: &[(&str, Option<&str>)]) -> Result<(), 
     Ok(())
 }
 
-/// Adds texts that are members, each behind what stands in front of it.
-fn push_members(
-    lines: &mut Vec<u8>,
-    value: &Value,
-    members: &[(&str, &str)],
-) -> Result<(), Misread> {
-    for (front, name) in members {
-        lines.extend_from_slice(front.as_bytes())?;
-        lines.extend_from_slice(plain_text(value_at(value, name)?)?.as_bytes())?;
-    }
-    Ok(())
-}
-
 /// Adds numbers below 2^64 that are members, each behind what stands in front of it.
 fn push_counts(
     lines: &mut Vec<u8>,
@@ -163,16 +154,20 @@ fn push_counts(
 
 /// Adds when the daemon began, when it was seen, and its files.
 fn push_head(lines: &mut Vec<u8>, value: &Value) -> Result<(), Misread> {
-    let members = [
-        ("running since ", "since"),
-        (", seen at ", "at"),
-        ("\n", "table"),
-        (" with ", "declarations"),
-        (" and ", "certificate"),
+    let (since, at) = (text_at(value, "since")?, text_at(value, "at")?);
+    let table = text_at(value, "table")?;
+    let declarations = text_at(value, "declarations")?;
+    let certificate = text_at(value, "certificate")?;
+    let jobs = text_if_told(Some(value_at(value, "anacrontab")?))?;
+    let told = [
+        ("running since ", Some(since)),
+        (", seen at ", Some(at)),
+        ("\n", Some(table)),
+        (" with ", Some(declarations)),
+        (" and ", Some(certificate)),
+        (" and ", jobs),
     ];
-    push_members(lines, value, &members)?;
-    let jobs = text_or_null(value_at(value, "anacrontab")?)?;
-    push_told(lines, &[(" and ", jobs)])?;
+    push_told(lines, &told)?;
     push_counts(lines, value, &[(", capacity ", "capacity")])?;
     lines.extend_from_slice(b"\n")?;
     Ok(())
@@ -180,16 +175,18 @@ fn push_head(lines: &mut Vec<u8>, value: &Value) -> Result<(), Misread> {
 
 /// Adds the line of a run that runs, and returns whether it's late.
 fn push_run(alloc: Global, lines: &mut Vec<u8>, run: &Value) -> Result<bool, Misread> {
-    seconds_of(plain_text(value_at(run, "since")?)?)?;
-    let until = text_if_told(run, "until")?;
+    seconds_at(run, "since")?;
+    let until = text_if_told(run.get("until"))?;
     seconds_if_told(until)?;
     let peers = match run.get("may_meet") {
         Some(told) => plain_text(told)?,
         None => "",
     };
     let late = member(alloc, run, "late")?;
-    push_members(lines, run, &[("", "run"), (" runs since ", "since")])?;
+    let (name, since) = (text_at(run, "run")?, text_at(run, "since")?);
     let told = [
+        ("", Some(name)),
+        (" runs since ", Some(since)),
         (" until ", until),
         (", late", if late { Some("") } else { None }),
         (
@@ -214,14 +211,13 @@ fn push_running(alloc: Global, lines: &mut Vec<u8>, value: &Value) -> Result<boo
 /// Adds a line for each run that waits, and one for what is due next.
 fn push_waiting(lines: &mut Vec<u8>, value: &Value) -> Result<(), Misread> {
     for name in items_at(value, "waiting")? {
-        push_told(
-            lines,
-            &[("", Some(plain_text(name)?)), (" waits\n", Some(""))],
-        )?;
+        let name = plain_text(name)?;
+        push_told(lines, &[(name, Some(" waits\n"))])?;
     }
-    if let Some(next) = text_if_told(value, "next_due")? {
-        push_told(lines, &[("next is ", Some(next)), ("\n", Some(""))])?;
-    }
+    let Some(next) = text_if_told(value.get("next_due"))? else {
+        return Ok(());
+    };
+    push_told(lines, &[("next is ", Some(next)), ("\n", Some(""))])?;
     Ok(())
 }
 
@@ -248,9 +244,10 @@ fn push_faults(alloc: Global, lines: &mut Vec<u8>, value: &Value) -> Result<(), 
 
 /// The report of a state.
 fn report_of(alloc: Global, value: &Value) -> Result<Report, Misread> {
-    let at = seconds_of(plain_text(value_at(value, "at")?)?)?;
-    seconds_of(plain_text(value_at(value, "since")?)?)?;
-    let stamp_fault_at = seconds_if_told(text_or_null(value_at(value, "stamp_fault_at")?)?)?;
+    let at = seconds_at(value, "at")?;
+    seconds_at(value, "since")?;
+    let stamp_fault_at = text_if_told(Some(value_at(value, "stamp_fault_at")?))?;
+    let stamp_fault_at = seconds_if_told(stamp_fault_at)?;
     see_checksum(value)?;
     let is_stopping = member(alloc, value, "stopping")?;
     let mut lines = Vec::new(alloc);

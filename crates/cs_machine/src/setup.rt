@@ -49,8 +49,12 @@ pub struct Setup<'a> {
 fn note_of<'a>(jobs: &'a [JobNote], run: &[u8]) -> Option<&'a JobNote>
     ensures { option_map (λ note. note.now) result ≡ note_of run.now jobs.now }
 {
-    jobs.iter()
-        .find(|note| run.starts_with(note.front.as_slice()))
+    for note in jobs {
+        if run.starts_with(note.front.as_slice()) {
+            return Some(note);
+        }
+    }
+    None
 }
 
 /// The names of the jobs whose runs may meet this run if it is late; none where nothing is told of

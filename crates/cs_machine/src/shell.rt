@@ -1,25 +1,25 @@
 //! The command line of a job.
 ghost use Rattle.std.specs.Prelude.{◌≡◌, ◌↔◌, ℕ, List, Some, None, IfSome, IsSome, option_map};
-ghost use Rattle.std.specs.Prelude.{[], true, false, IfOk, IfErr, OnOk};
+ghost use Rattle.std.specs.Prelude.{true, false, IfOk, IfErr, OnOk};
 ghost use Rattle.std.specs.Prelude.{if◌then◌else◌, Option};
 ghost use Rattle.std.specs.Option.{option_copied};
-ghost use Rattle.std.specs.List.{fold, list_all};
+ghost use Rattle.std.specs.List.{fold};
 ghost use Rattle.std.specs.Str.{bytes_eq, is_utf8};
 ghost use Rattle.std.specs.Process.{command_program, command_args, command_var, command_dir};
 ghost use Rattle.std.specs.Process.{clears_env, SameProgramAndArgs, SameDir, SameEnv};
-ghost use Rattle.cs_machine.specs.Shell.{are_texts, is_setting, is_text_home, with_shell, value_of};
+ghost use Rattle.cs_machine.specs.Shell.{are_texts, with_shell, value_of};
 ghost use Rattle.cs_machine.specs.Shell.{shell_name, shell_words, value_after, value_with};
 ghost use Rattle.cs_machine.specs.Shell.{folder_of, user_settings, usual_settings};
 ghost use Rattle.cs_machine.specs.declared.shell.CommandFault.TheVariants.{NotText as not_text};
 
 use crate::home::Home;
 use cs_civil::Bytes;
-use std::alloc::Global;
+use std::alloc::{AllocError, Global};
 use std::process::Command;
 use std::str;
 
 /// Why a command can't be set up.
-#[derive(Clone, Copy, PartialEq, Eq)]
+#[derive(Clone, Copy)]
 pub enum CommandFault {
     /// The command or a setting is not UTF-8 (this profile).
     NotText,
@@ -82,26 +82,16 @@ fn is_text(bytes: &[u8]) -> bool
 fn are_texts(command: &[u8], env: &[(Bytes, Bytes)], home: Option<&Home>) -> bool
     ensures { result ≡ are_texts command.now env.now (option_copied home.entry) }
 {
-    is_text(command) && are_settings(env) && is_text_home(home)
-}
-
-fn are_settings(env: &[(Bytes, Bytes)]) -> bool
-    ensures { result ≡ list_all is_setting env.now }
-{
     for (name, value) in env {
         if !is_text(name.as_slice()) || !is_text(value.as_slice()) {
             return false;
         }
     }
-    true
-}
-
-fn is_text_home(home: Option<&Home>) -> bool
-    ensures { result ≡ is_text_home (option_copied home.entry) }
-{
     match home {
-        Some(home) => is_text(home.user()) && is_text(home.folder()),
-        None => true,
+        Some(home) => {
+            is_text(command) && is_text(home.user.as_slice()) && is_text(home.folder.as_slice())
+        }
+        None => is_text(command),
     }
 }
 
@@ -143,27 +133,13 @@ fn usual_command(
     ensures inherits { IfSome result (λ c. clears_env c ≡ false) }
     ensures folder { IfSome result (λ c. command_dir c ≡ None) }
 {
-    let mut shell = Command::new(alloc, program).ok()?;
-    set_usual(&mut shell, command, home)?;
-    Some(shell)
-}
-
-/// Sets the words of a command's shell, and what is set above all settings.
-fn set_usual(shell: &mut Command, command: &[u8], home: Option<&Home>) -> Option<()>
-    requires words { command_args shell.old ≡ [] }
-    requires variables { (name : List ℕ) → command_var shell.old name ≡ None }
-    ensures words { IsSome result → command_args shell.new ≡ shell_words command.now }
-    ensures program { IsSome result → command_program shell.new ≡ command_program shell.old }
-    ensures variables { IsSome result → (name : List ℕ) → command_var shell.new name
-        ≡ option_map Some (value_of (usual_settings (option_copied home.entry)) name) }
-    ensures clears { IsSome result → clears_env shell.new ≡ clears_env shell.old }
-    ensures folder { IsSome result → SameDir shell.old shell.new }
-{
     let command = str::from_utf8(command).ok()?;
+    let mut shell = Command::new(alloc, program).ok()?;
     shell.arg("-c").ok()?;
     shell.arg(command).ok()?;
-    set(shell, SHELL.as_bytes(), USUAL_SHELL.as_bytes())?;
-    set_user(shell, home)
+    set(&mut shell, SHELL.as_bytes(), USUAL_SHELL.as_bytes())?;
+    set_user(&mut shell, home)?;
+    Some(shell)
 }
 
 /// Sets a user's variables, where the user is known, and name and folder are UTF-8.
@@ -178,9 +154,9 @@ fn set_user(shell: &mut Command, home: Option<&Home>) -> Option<()>
     let Some(home) = home else {
         return Some(());
     };
-    set(shell, HOME.as_bytes(), home.folder())?;
-    set(shell, b"LOGNAME".as_slice(), home.user())?;
-    set(shell, b"USER".as_slice(), home.user())
+    set(shell, HOME.as_bytes(), home.folder.as_slice())?;
+    set(shell, b"LOGNAME".as_slice(), home.user.as_slice())?;
+    set(shell, b"USER".as_slice(), home.user.as_slice())
 }
 
 /// Sets the folder of a command, where its user is known and the folder is UTF-8.
@@ -194,7 +170,7 @@ fn set_folder(shell: &mut Command, env: &[(Bytes, Bytes)], home: Option<&Home>) 
     let Some(home) = home else {
         return Some(());
     };
-    let folder = value_after(HOME.as_bytes(), home.folder(), env);
+    let folder = value_after(HOME.as_bytes(), home.folder.as_slice(), env);
     shell.current_dir(str::from_utf8(folder).ok()?).ok()?;
     Some(())
 }
@@ -207,10 +183,16 @@ fn set(shell: &mut Command, name: &[u8], value: &[u8]) -> Option<()>
     ensures clears { IsSome result → clears_env shell.new ≡ clears_env shell.old }
     ensures folder { IsSome result → SameDir shell.old shell.new }
 {
-    let name = str::from_utf8(name).ok()?;
-    let value = str::from_utf8(value).ok()?;
-    shell.env(name, value).ok()?;
-    Some(())
+    let Ok(name) = str::from_utf8(name) else {
+        return None;
+    };
+    let Ok(value) = str::from_utf8(value) else {
+        return None;
+    };
+    match shell.env(name, value) {
+        Ok(_) => Some(()),
+        Err(AllocError) => None,
+    }
 }
 
 /// The shell that settings name, if it is UTF-8.

@@ -67,7 +67,7 @@ fn output_fault(
 ) -> Result<Vec<u8>, AllocError> {
     let why = format!(in alloc; "{error}")?;
     let mut text = Vec::new(alloc);
-    push_output_fault(&mut text, run, folder.path().as_bytes(), why.as_bytes())?;
+    push_output_fault(&mut text, run, folder.path.as_bytes(), why.as_bytes())?;
     Ok(text)
 }
 

@@ -14,7 +14,7 @@ use std::rt::Files;
 use std::{fs, io};
 
 /// The path names no folder, or can't be looked at.
-#[derive(Clone, Copy, PartialEq, Eq)]
+#[derive(Clone, Copy)]
 pub struct NoFolder;
 
 /// A folder of stamps: each identifier's file holds `YYYYMMDD` and a newline (anacron(8)).

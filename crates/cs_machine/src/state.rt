@@ -3,9 +3,9 @@
 use crate::counts::Counts;
 use crate::left_out::left_out_by;
 use crate::setup::JobNote;
-use crate::starts::{Starts, is_last_of};
+use crate::starts::{is_last_of, note_run};
 use cs_civil::Bytes;
-use std::alloc::{AllocError, Global};
+use std::alloc::Global;
 
 /// What a daemon does, as the lines of its log tell it: which runs run, wait and are late, whether it
 /// starts nothing more, and how often something went wrong.
@@ -16,7 +16,8 @@ pub(crate) struct State {
     alloc: Global,
     /// When the daemon began, in seconds since 1970-01-01 00:00 UTC.
     pub(crate) since: Option<u64>,
-    pub(crate) starts: Starts,
+    /// The runs that have started and not yet ended, each with the second in which it started.
+    pub(crate) starts: Vec<(Bytes, u64)>,
     /// The names of the runs that have passed their declared time, and not yet ended.
     pub(crate) late: Vec<Bytes>,
     /// The names of the runs that wait for a lock.
@@ -47,11 +48,11 @@ fn ends_wait(words: &[u8], name: &[u8]) -> bool {
     }
 }
 
-/// Adds a name. The only error is out of memory, and then it isn't added.
-fn add(alloc: Global, names: &mut Vec<Bytes>, name: &[u8]) -> Result<(), AllocError> {
-    let name = Bytes::from_slice(alloc, name)?;
-    names.push(name)?;
-    Ok(())
+/// Adds a name, unless memory runs out.
+fn add(alloc: Global, names: &mut Vec<Bytes>, name: &[u8]) {
+    if let Ok(name) = Bytes::from_slice(alloc, name) {
+        let _ = names.push(name);
+    }
 }
 
 impl State {
@@ -60,7 +61,7 @@ impl State {
         State {
             alloc,
             since: at,
-            starts: Starts::none(alloc),
+            starts: Vec::new(alloc),
             late: Vec::new(alloc),
             waiting: Vec::new(alloc),
             counts: Counts::NONE,
@@ -77,27 +78,20 @@ impl State {
     /// isn't noted.
     pub(crate) fn take(&mut self, words: &[u8], at: Option<u64>, jobs: &[JobNote]) -> Option<u64> {
         self.has_changed = true;
-        let _ = match words.strip_prefix(b"waiting ") {
+        match words.strip_prefix(b"waiting ") {
             Some(name) => add(self.alloc, &mut self.waiting, name),
-            None => {
-                self.waiting
-                    .retain(|name| !ends_wait(words, name.as_slice()));
-                Ok(())
-            }
-        };
-        let _ = match words.strip_prefix(b"overrun ") {
+            None => (self.waiting).retain(|name| !ends_wait(words, name.as_slice())),
+        }
+        match words.strip_prefix(b"overrun ") {
             Some(name) => add(self.alloc, &mut self.late, name),
-            None => {
-                self.late.retain(|name| !is_last_of(words, name.as_slice()));
-                Ok(())
-            }
-        };
+            None => self.late.retain(|name| !is_last_of(words, name.as_slice())),
+        }
         self.counts = self.counts.with(words);
         self.left_out = self.left_out.saturating_add(left_out_by(words, jobs));
         if words.starts_with(b"stamp not written ") {
             self.stamp_fault_at = at;
         }
-        self.starts.note(words, at)
+        note_run(self.alloc, &mut self.starts, words, at)
     }
 
     /// Notes that the daemon starts nothing more: it drops the runs that wait.
@@ -109,7 +103,12 @@ impl State {
 
     /// Whether the run of this name is late.
     pub(crate) fn is_late(&self, name: &[u8]) -> bool {
-        self.late.iter().any(|late| late.as_slice() == name)
+        for late in self.late.as_slice() {
+            if late.as_slice() == name {
+                return true;
+            }
+        }
+        false
     }
 
     /// Whether the state is to be written in this second: a line came since it was written last, or

@@ -3,7 +3,7 @@ use crate::line_text::moment_text;
 use crate::next_due::NextDue;
 use crate::setup::{JobNote, Setup, end_of, peers_of};
 use crate::state::State;
-use cs_civil::{Bytes, date_text, push_number};
+use cs_civil::{date_text, push_number};
 use cs_place::push_shown;
 use std::alloc::{AllocError, Global};
 
@@ -24,25 +24,14 @@ fn push_text(alloc: Global, text: &mut Vec<u8>, words: &[u8]) -> Result<(), Allo
     text.extend_from_slice(b"\"")?;
     for byte in shown.as_slice() {
         if *byte == b'"' || *byte == b'\\' {
-            text.extend_from_slice(b"\\")?;
+            text.push(b'\\')?;
         }
-        text.extend_from_slice(&[*byte])?;
+        text.push(*byte)?;
     }
     text.extend_from_slice(b"\"")
 }
 
-/// Adds a member of an object, behind those that it has.
-fn push_member(
-    alloc: Global,
-    text: &mut Vec<u8>,
-    name: &str,
-    value: Told<'_>,
-) -> Result<(), AllocError> {
-    if !text.ends_with(b"{") {
-        text.extend_from_slice(b",")?;
-    }
-    push_text(alloc, text, name.as_bytes())?;
-    text.extend_from_slice(b":")?;
+fn push_value(alloc: Global, text: &mut Vec<u8>, value: Told<'_>) -> Result<(), AllocError> {
     match value {
         Told::Text(words) => push_text(alloc, text, words),
         Told::Moment(at) => match at.and_then(moment_text) {
@@ -55,16 +44,33 @@ fn push_member(
     }
 }
 
-/// Adds the runs that run, in the order in which they started: since when and until when, whether
-/// each is late, and what it may meet then.
-fn push_running(
+/// Adds members of an object, behind those that it has.
+fn push_members(
     alloc: Global,
     text: &mut Vec<u8>,
-    jobs: &[JobNote],
-    state: &State,
+    members: &[(&str, Told<'_>)],
+) -> Result<(), AllocError> {
+    for (name, value) in members {
+        if !text.ends_with(b"{") {
+            text.extend_from_slice(b",")?;
+        }
+        push_text(alloc, text, name.as_bytes())?;
+        text.extend_from_slice(b":")?;
+        push_value(alloc, text, *value)?;
+    }
+    Ok(())
+}
+
+/// Adds the runs that run, in the order in which they started: since when and until when, whether
+/// each is late, and what it may meet then.
+fn push_running<'x>(
+    alloc: Global,
+    text: &mut Vec<u8>,
+    jobs: &'x [JobNote],
+    state: &'x State,
 ) -> Result<(), AllocError> {
     let mut front = b"{".as_slice();
-    for (name, since) in state.starts.runs() {
+    for (name, since) in state.starts.as_slice() {
         let name = name.as_slice();
         let late = state.is_late(name);
         let peers = if late {
@@ -72,30 +78,17 @@ fn push_running(
         } else {
             b"".as_slice()
         };
+        let members = [
+            ("run", Told::Text(name)),
+            ("since", Told::Moment(Some(*since))),
+            ("until", Told::Moment(end_of(jobs, name, *since))),
+            ("late", Told::Flag(late)),
+            ("may_meet", Told::Text(peers)),
+        ];
         text.extend_from_slice(front)?;
-        push_member(alloc, text, "run", Told::Text(name))?;
-        push_member(alloc, text, "since", Told::Moment(Some(*since)))?;
-        push_member(
-            alloc,
-            text,
-            "until",
-            Told::Moment(end_of(jobs, name, *since)),
-        )?;
-        push_member(alloc, text, "late", Told::Flag(late))?;
-        push_member(alloc, text, "may_meet", Told::Text(peers))?;
+        push_members(alloc, text, &members)?;
         text.extend_from_slice(b"}")?;
         front = b",{".as_slice();
-    }
-    Ok(())
-}
-
-/// Adds the names of the runs that wait, in the order in which they came.
-fn push_waiting(alloc: Global, text: &mut Vec<u8>, waiting: &[Bytes]) -> Result<(), AllocError> {
-    for name in waiting {
-        if !text.ends_with(b"[") {
-            text.extend_from_slice(b",")?;
-        }
-        push_text(alloc, text, name.as_slice())?;
     }
     Ok(())
 }
@@ -128,53 +121,23 @@ fn push_setup(
         Some(path) => Told::Text(path.as_bytes()),
         None => Told::Moment(None),
     };
-    push_member(alloc, text, "version", Told::Text(setup.version.as_bytes()))?;
-    push_member(alloc, text, "at", Told::Moment(Some(at)))?;
-    push_member(alloc, text, "since", Told::Moment(state.since))?;
-    push_member(alloc, text, "table", Told::Text(setup.table.as_bytes()))?;
-    push_member(
-        alloc,
-        text,
-        "declarations",
-        Told::Text(setup.declarations.as_bytes()),
-    )?;
-    push_member(
-        alloc,
-        text,
-        "certificate",
-        Told::Text(setup.certificate.as_bytes()),
-    )?;
-    push_member(
-        alloc,
-        text,
-        "certificate_sha256",
-        Told::Text(digits.as_bytes()),
-    )?;
-    push_member(alloc, text, "anacrontab", jobs)?;
-    push_member(alloc, text, "capacity", Told::Count(setup.capacity))?;
-    push_member(alloc, text, "stopping", Told::Flag(state.is_stopping))
-}
-
-/// Adds the counts and the last fault of a stamp.
-fn push_counts(alloc: Global, text: &mut Vec<u8>, state: &State) -> Result<(), AllocError> {
-    let counts = state.counts;
-    push_member(alloc, text, "skipped", Told::Count(counts.skipped))?;
-    push_member(alloc, text, "overruns", Told::Count(counts.overruns))?;
-    push_member(alloc, text, "outages", Told::Count(counts.outages))?;
-    push_member(alloc, text, "left_out", Told::Count(state.left_out))?;
-    push_member(alloc, text, "not_started", Told::Count(counts.not_started))?;
-    push_member(
-        alloc,
-        text,
-        "stamps_not_written",
-        Told::Count(counts.stamps_not_written),
-    )?;
-    push_member(
-        alloc,
-        text,
-        "stamp_fault_at",
-        Told::Moment(state.stamp_fault_at),
-    )
+    let front = [
+        ("version", Told::Text(setup.version.as_bytes())),
+        ("at", Told::Moment(Some(at))),
+        ("since", Told::Moment(state.since)),
+        ("table", Told::Text(setup.table.as_bytes())),
+        ("declarations", Told::Text(setup.declarations.as_bytes())),
+        ("certificate", Told::Text(setup.certificate.as_bytes())),
+    ];
+    push_members(alloc, text, &front)?;
+    let digest = [("certificate_sha256", Told::Text(digits.as_bytes()))];
+    push_members(alloc, text, &digest)?;
+    let rest = [
+        ("anacrontab", jobs),
+        ("capacity", Told::Count(setup.capacity)),
+        ("stopping", Told::Flag(state.is_stopping)),
+    ];
+    push_members(alloc, text, &rest)
 }
 
 /// The text of a state at a moment, in seconds since 1970-01-01 00:00 UTC, with what is due next: one
@@ -188,15 +151,32 @@ pub(crate) fn state_text(
     next: &Option<NextDue<'_>>,
     at: u64,
 ) -> Result<Vec<u8>, AllocError> {
+    let counts = [
+        ("skipped", Told::Count(state.counts.skipped)),
+        ("overruns", Told::Count(state.counts.overruns)),
+        ("outages", Told::Count(state.counts.outages)),
+        ("left_out", Told::Count(state.left_out)),
+        ("not_started", Told::Count(state.counts.not_started)),
+        (
+            "stamps_not_written",
+            Told::Count(state.counts.stamps_not_written),
+        ),
+        ("stamp_fault_at", Told::Moment(state.stamp_fault_at)),
+    ];
     let mut text = Vec::from_slice(alloc, b"{".as_slice())?;
     push_setup(alloc, &mut text, setup, state, at)?;
     text.extend_from_slice(b",\"running\":[")?;
     push_running(alloc, &mut text, setup.jobs, state)?;
     text.extend_from_slice(b"],\"waiting\":[")?;
-    push_waiting(alloc, &mut text, state.waiting.as_slice())?;
+    for name in state.waiting.as_slice() {
+        if !text.ends_with(b"[") {
+            text.extend_from_slice(b",")?;
+        }
+        push_text(alloc, &mut text, name.as_slice())?;
+    }
     text.extend_from_slice(b"],\"next_due\":")?;
     push_next(alloc, &mut text, next)?;
-    push_counts(alloc, &mut text, state)?;
+    push_members(alloc, &mut text, &counts)?;
     text.extend_from_slice(b"}\n")?;
     Ok(text)
 }

@@ -1,4 +1,3 @@
 pub mod Places
 pub mod Mark
 pub mod Shown
-pub mod PartName

@@ -7,7 +7,7 @@ mod places;
 mod shown;
 
 pub use mark::{MARK, are_mark, is_gathered, is_mark_name};
-pub use part_name::{PART, is_part, is_part_name};
+pub use part_name::{PART, is_part_name};
 pub use places::{
     Place, place_of, push_place_text, push_places, push_places_told, read_places, split_last_word,
 };

@@ -2,7 +2,6 @@
 ghost use Rattle.std.specs.Prelude.{◌≡◌, ◌==◌, IsTrue, option_map};
 ghost use Rattle.std.specs.List.{list_all};
 ghost use Rattle.std.specs.Str.{IsUtf8};
-ghost use Rattle.cs_place.specs.PartName.{part_comment};
 ghost use Rattle.cs_place.specs.Places.{is_name_byte, is_part_name, part_in};
 
 /// What stands in front of a part's name in its comment.
@@ -40,14 +39,4 @@ pub(crate) fn part_in(comment: &[u8]) -> Option<&[u8]>
     }
     let name = &comment[PART.len()..];
     if is_part_name(name) { Some(name) } else { None }
-}
-
-/// Whether the comment is that of the part of this name.
-pub fn is_part(comment: &[u8], name: &[u8]) -> bool
-    ensures { IsTrue result → comment.now ≡ part_comment name.now }
-{
-    match comment.strip_prefix(PART) {
-        Some(told) => told == name,
-        None => false,
-    }
 }

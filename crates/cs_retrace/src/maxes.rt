@@ -91,7 +91,8 @@ pub fn read_maxes(
     alloc: Global,
     text: &[u8],
 ) -> Result<Result<Vec<Given>, (u64, MaxFault)>, AllocError>
-    ensures given { IfOk result (λ read. IfOk read (λ given. given_in text.now ≡ Some given.items)) }
+    ensures given { IfOk result
+        (λ read. IfOk read (λ given. given_in text.now ≡ Some given.items)) }
     ensures fault { IfOk result (λ read. IfErr read (λ fault. given_in text.now ≡ None)) }
 {
     let mut given = Vec::new(alloc);

@@ -8,11 +8,12 @@ ghost use Rattle.cs_report.specs.Warning.{plan_notes, warnings};
 ghost use Rattle.cs_serve.specs.Anew.{IsOrderOf, IsTaken, rejected_status, rejected_text};
 
 use cs_args::RunWords;
-use cs_check::{CheckError, Checked, check};
+use cs_check::{CheckError, CheckFault, Checked, check};
 use cs_civil::Bytes;
-use cs_files::{Planned, Response, Status};
+use cs_files::{Response, Status};
 use cs_io::{Machine, Printer};
 use cs_place::is_gathered;
+use cs_plan::Plan;
 use cs_report::{fault_text, plan_notes, warnings};
 use cs_ruling::{Claimed, Digests, Order, find_claimed, refuse_gathered};
 use std::alloc::{AllocError, Global};
@@ -24,7 +25,8 @@ use std::{fs, io};
 #[derive(Drop)]
 pub(crate) struct Accepted {
     checked: Checked,
-    warnings: Bytes,
+    /// What is to be warned of, and behind it the notes on the plan.
+    pub(crate) warnings: Bytes,
     digests: Digests,
     ghost own: { is_of_gathered checked ≡ false },
 }
@@ -44,12 +46,6 @@ pub(crate) enum Rejection {
     NoOutput,
     /// Memory ran out.
     NoMemory,
-}
-
-impl From<AllocError> for Rejection {
-    fn from(_error: AllocError) -> Rejection {
-        Rejection::NoMemory
-    }
 }
 
 impl Rejection {
@@ -98,19 +94,10 @@ impl Rejection {
     }
 }
 
-/// Whether a file of a daemon is standard input, which can be read once.
-fn reads_standard(words: &RunWords<'_>) -> bool {
-    let files = &words.check;
-    [files.table, files.declarations, files.certificate].contains(&"-")
-        || files.anacrontab == Some("-")
-}
-
-/// Whether a daemon's files aren't all files, as far as they are there. A pipe would hold it up.
-fn has_no_files<R: Files>(rt: &R, words: &RunWords<'_>) -> bool {
-    let files = &words.check;
-    let jobs = files.anacrontab.unwrap_or(files.table);
-    for path in [files.table, files.declarations, files.certificate, jobs] {
-        if let Ok(found) = fs::metadata(rt, path) {
+/// Whether these aren't all files, as far as they are there. A pipe would hold the daemon up.
+fn has_no_files<R: Files>(rt: &R, paths: &[&str]) -> bool {
+    for path in paths {
+        if let Ok(found) = fs::metadata(rt, *path) {
             if !found.is_file() {
                 return true;
             }
@@ -143,6 +130,24 @@ pub(crate) fn has_output<R: Files>(rt: &R, output: Option<&str>) -> bool {
     }
 }
 
+/// The files aren't accepted, as this answers.
+fn rejected_by(answer: Result<Response, AllocError>) -> Rejection {
+    match answer {
+        Ok(response) => Rejection::Answered(response),
+        Err(AllocError) => Rejection::NoMemory,
+    }
+}
+
+/// What is to be warned of, and behind it the notes on the plan.
+fn told_of(alloc: Global, plan: &Plan) -> Result<Bytes, AllocError>
+    ensures { IfOk result (λ text.
+        text ≡ warnings plan.now.crontab plan.now.anacrontab ++ plan_notes plan.now) }
+{
+    let mut told = warnings(alloc, plan.crontab(), plan.anacrontab())?.into_vec();
+    told.extend_from_slice(plan_notes(alloc, plan)?.as_slice())?;
+    Ok(Bytes::from_vec(told))
+}
+
 /// What the checker has accepted, unless the crontab was gathered.
 fn accept(alloc: Global, checked: Checked, digests: Digests) -> Result<Accepted, Rejection>
     ensures { IfOk result (λ accepted. (accepted.checked ≡ checked)
@@ -150,17 +155,28 @@ fn accept(alloc: Global, checked: Checked, digests: Digests) -> Result<Accepted,
         ++ plan_notes (plan_in checked))
         × (accepted.digests ≡ digests)) }
 {
-    let plan = checked.plan();
-    if is_gathered(plan.crontab().settings()) {
-        return Err(Rejection::Answered(refuse_gathered(alloc)?));
+    if is_gathered(checked.plan().crontab().settings()) {
+        drop(checked);
+        return Err(rejected_by(refuse_gathered(alloc)));
     }
-    let mut told = warnings(alloc, plan.crontab(), plan.anacrontab())?.into_vec();
-    told.extend_from_slice(plan_notes(alloc, plan)?.as_slice())?;
-    Ok(Accepted {
-        checked,
-        warnings: Bytes::from_vec(told),
-        digests,
-    })
+    match told_of(alloc, checked.plan()) {
+        Ok(warnings) => Ok(Accepted {
+            checked,
+            warnings,
+            digests,
+        }),
+        Err(AllocError) => {
+            drop(checked);
+            Err(Rejection::NoMemory)
+        }
+    }
+}
+
+/// What is answered where a rule isn't met.
+fn refusal(alloc: Global, plan: &Plan, fault: &CheckFault) -> Result<Response, AllocError> {
+    let mut text = fault_text(alloc, plan, fault)?.into_vec();
+    text.extend_from_slice(b"\n")?;
+    Ok(Response::refused(text, Bytes::new(alloc)))
 }
 
 /// What the checker rules of what the files hold.
@@ -173,16 +189,13 @@ fn rule(alloc: Global, claimed: Claimed) -> Result<Accepted, Rejection>
         certificate,
         digests,
     } = claimed;
-    let Planned { plan, .. } = planned;
-    match check(alloc, &plan, certificate) {
+    let ruled = match check(alloc, &planned.plan, certificate) {
         Ok(checked) => accept(alloc, checked, digests),
-        Err(CheckError::Fault(fault)) => {
-            let mut text = fault_text(alloc, &plan, &fault)?.into_vec();
-            text.extend_from_slice(b"\n")?;
-            Err(Rejection::Answered(Response::refused(text, Bytes::new(alloc))))
-        }
+        Err(CheckError::Fault(fault)) => { Err(rejected_by(refusal(alloc, &planned.plan, &fault))) }
         Err(CheckError::OutOfMemory) => Err(Rejection::NoMemory),
-    }
+    };
+    drop(planned);
+    ruled
 }
 
 /// Reads the files of these words anew, and checks them, with one thread.
@@ -191,10 +204,13 @@ pub(crate) fn read_anew<R: Files + Input>(
     alloc: Global,
     words: &RunWords<'_>,
 ) -> Result<Accepted, Rejection> {
-    if reads_standard(words) {
+    let files = &words.check;
+    let jobs = files.anacrontab.unwrap_or(files.table);
+    let paths = [files.table, files.declarations, files.certificate, jobs];
+    if paths.contains(&"-") {
         return Err(Rejection::StandardInput);
     }
-    if has_no_files(rt, words) {
+    if has_no_files(rt, &paths) {
         return Err(Rejection::NoFile);
     }
     if !has_log(rt, words.log) {
@@ -206,18 +222,11 @@ pub(crate) fn read_anew<R: Files + Input>(
     let (mut inputs, mut unheard) = (Machine::new(rt), Printer::new(io::sink()));
     match find_claimed(alloc, &mut inputs, &mut unheard, &words.check) {
         Ok(claimed) => rule(alloc, claimed),
-        Err(fault) => Err(Rejection::Answered(fault.response(alloc, b"".as_slice())?)),
+        Err(fault) => Err(rejected_by(fault.response(alloc, b"".as_slice()))),
     }
 }
 
 impl Accepted {
-    /// What is to be warned of, and behind it the notes on the plan.
-    pub(crate) fn warnings(&self) -> &[u8]
-        ensures { result.now ≡ self.now.warnings }
-    {
-        self.warnings.as_slice()
-    }
-
     /// What these words of `run` order of it.
     pub(crate) fn order<'a>(self, words: RunWords<'a>) -> Order<'a>
         ensures of { IsOrderOf (asked_run words.entry) result }

@@ -3,10 +3,10 @@ use cs_args::version_text;
 use cs_civil::{Minute, date_text};
 use cs_crontab::Line;
 use cs_daemon::Cause;
-use cs_machine::{ClockBack, HookCall, JobNote, Remarks, RunLog, Setup, ToldFile};
+use cs_machine::{ClockBack, JobNote, Remarks, RunLog, Setup, ToldFile};
 use cs_ruling::Order;
 use cs_table::Setting;
-use std::alloc::Global;
+use std::alloc::{AllocError, Global};
 use std::io;
 use std::io::Write;
 use std::rt::{Clock, Files};
@@ -17,7 +17,7 @@ use std::sync::{Mutex, Wait};
 #[derive(Drop)]
 pub(crate) struct Hand<'a, 'r, R, W> {
     rt: &'a R,
-    log: &'a Mutex<RunLog<'r, R, W>>,
+    pub(crate) log: &'a Mutex<RunLog<'r, R, W>>,
     file: &'a ToldFile<'a>,
     remarks: &'a Remarks,
 }
@@ -51,9 +51,7 @@ impl<'a, 'r, R: Clock + Wait, W: Write> Hand<'a, 'r, R, W> {
             self.note(remark.as_slice());
         }
     }
-}
 
-impl<'a, 'r, R: Clock + Files + Wait, W: Write> Hand<'a, 'r, R, W> {
     /// Writes each line of a text so, but empty ones.
     pub(crate) fn note_lines(&mut self, text: &[u8]) {
         for line in text.split(|byte| *byte == b'\n') {
@@ -67,12 +65,9 @@ impl<'a, 'r, R: Clock + Files + Wait, W: Write> Hand<'a, 'r, R, W> {
     pub(crate) fn note_end(&mut self, why: &[u8]) {
         let _ = self.log.lock(self.rt).note_end(why);
     }
+}
 
-    /// Takes the calls of hooks that have come due.
-    pub(crate) fn take_calls(&mut self) -> Vec<HookCall> {
-        self.log.lock(self.rt).take_calls()
-    }
-
+impl<'a, 'r, R: Clock + Files + Wait, W: Write> Hand<'a, 'r, R, W> {
     /// Writes the file of the daemon's state, where it is due. The log is free meanwhile, so that no
     /// job waits for the disk of this file. A write that fails is passed over: the next is due in a
     /// minute.
@@ -120,6 +115,15 @@ pub(crate) fn setup_of<'a>(order: &Order<'a>, jobs: &'a [JobNote]) -> Setup<'a> 
     }
 }
 
+/// These texts, one behind another.
+fn joined(alloc: Global, texts: &[&[u8]]) -> Result<Vec<u8>, AllocError> {
+    let mut line = Vec::new(alloc);
+    for text in texts {
+        line.extend_from_slice(*text)?;
+    }
+    Ok(line)
+}
+
 /// What a log begins with: the files of the tables, and how much may run at once.
 fn opening(alloc: Global, order: &Order<'_>) -> io::Result<Vec<u8>> {
     let mut line = Vec::new(alloc);
@@ -142,33 +146,33 @@ fn opening(alloc: Global, order: &Order<'_>) -> io::Result<Vec<u8>> {
 }
 
 /// The SHA-256 of a file, by which it is told apart from another.
-fn digest_line(alloc: Global, file: &str, digest: &[u8]) -> io::Result<Vec<u8>> {
-    let mut line = Vec::new(alloc);
+fn digest_line(alloc: Global, file: &str, digest: &[u8]) -> Result<Vec<u8>, AllocError> {
     let digits = hex::encode(alloc, digest)?;
-    write!(line, "{file} sha256 {digits}")?;
-    Ok(line)
+    let (file, digits) = (file.as_bytes(), digits.as_bytes());
+    joined(alloc, &[file, b" sha256 ", digits])
 }
 
 /// That a setting by which cron would mail what jobs print has no effect.
-fn mail_line(alloc: Global, setting: &Setting, table: &str) -> io::Result<Vec<u8>> {
-    let mut line = Vec::new(alloc);
-    let number = setting.number();
-    write!(line, "MAILTO on line {number} of the {table} has no effect")?;
-    Ok(line)
+fn mail_line(alloc: Global, setting: &Setting, table: &str) -> Result<Vec<u8>, AllocError> {
+    let number = setting.number().to_string(alloc)?;
+    let (number, table) = (number.as_bytes(), table.as_bytes());
+    let front = b"MAILTO on line ".as_slice();
+    joined(
+        alloc,
+        &[front, number, b" of the ", table, b" has no effect"],
+    )
 }
 
 /// The command of a line of the crontab.
-fn job_line(alloc: Global, line: &Line) -> io::Result<Vec<u8>> {
-    let mut text = Vec::new(alloc);
-    let number = line.number();
-    write!(text, "job line {number}: ")?;
-    text.write_all(line.command())?;
-    Ok(text)
+fn job_line(alloc: Global, line: &Line) -> Result<Vec<u8>, AllocError> {
+    let number = line.number().to_string(alloc)?;
+    let front = b"job line ".as_slice();
+    joined(alloc, &[front, number.as_bytes(), b": ", line.command()])
 }
 
-impl<'a, 'r, R: Clock + Files + Wait, W: Write> Hand<'a, 'r, R, W> {
+impl<'a, 'r, R: Clock + Wait, W: Write> Hand<'a, 'r, R, W> {
     /// Notes a line, if there was memory for it.
-    fn note_made(&mut self, line: io::Result<Vec<u8>>) {
+    fn note_made(&mut self, line: Result<Vec<u8>, AllocError>) {
         if let Ok(line) = line {
             self.note(line.as_slice());
         }
@@ -183,17 +187,13 @@ impl<'a, 'r, R: Clock + Files + Wait, W: Write> Hand<'a, 'r, R, W> {
         }
     }
 
-    /// Notes the commands of a crontab, by which readers of the log know what its runs are of.
-    fn note_jobs(&mut self, alloc: Global, lines: &[Line]) {
-        for line in lines {
-            self.note_made(job_line(alloc, line));
-        }
-    }
-
     /// Notes what a daemon begins with: its files and their digests, the settings that have no
-    /// effect, and its commands.
+    /// effect, and the commands of its crontab, by which readers of the log know what its runs are
+    /// of.
     pub(crate) fn note_opening(&mut self, alloc: Global, order: &Order<'_>) {
-        self.note_made(opening(alloc, order));
+        if let Ok(line) = opening(alloc, order) {
+            self.note(line.as_slice());
+        }
         let digests = &order.digests;
         self.note_made(digest_line(alloc, "table", &digests.table));
         self.note_made(digest_line(alloc, "declarations", &digests.declarations));
@@ -201,7 +201,9 @@ impl<'a, 'r, R: Clock + Files + Wait, W: Write> Hand<'a, 'r, R, W> {
         let plan = order.checked.plan();
         self.note_mail(alloc, plan.crontab().settings(), "crontab");
         self.note_mail(alloc, plan.anacrontab().settings(), "anacrontab");
-        self.note_jobs(alloc, plan.crontab().lines());
+        for line in plan.crontab().lines() {
+            self.note_made(job_line(alloc, line));
+        }
     }
 }
 
@@ -219,13 +221,10 @@ pub(crate) fn closing(cause: Cause) -> &'static [u8] {
 }
 
 /// That the minutes behind the one and up to the other belong to no plan.
-pub(crate) fn gap_line(alloc: Global, latest: Minute, now: Minute) -> io::Result<Vec<u8>> {
-    let mut line = Vec::new(alloc);
-    line.write_all(b"no plan behind ")?;
-    line.write_all(&date_text(latest))?;
-    line.write_all(b" up to ")?;
-    line.write_all(&date_text(now))?;
-    Ok(line)
+pub(crate) fn gap_line(alloc: Global, latest: Minute, now: Minute) -> Result<Vec<u8>, AllocError> {
+    let (latest, now) = (date_text(latest), date_text(now));
+    let front = b"no plan behind ".as_slice();
+    joined(alloc, &[front, &latest, b" up to ", &now])
 }
 
 /// That the machine's clock went back, and what comes of it.

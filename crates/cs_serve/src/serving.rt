@@ -74,32 +74,36 @@ fn farewell(cause: Cause) -> &'static str
 /// Tells why an order isn't served, behind what is to be warned of.
 fn refuse<O: Output, E: Output>(
     alloc: Global,
-    order: &Order<'_>,
+    order: Order<'_>,
     obstacle: Obstacle,
     out: &mut O,
     err: &mut E,
 ) -> Status
-    ensures { Refuses obstacle order.now
+    ensures { Refuses obstacle order.entry
         (sink (O.contents out.old) (O.failed out.old))
         (sink (O.contents out.new) (O.failed out.new))
         (sink (E.contents err.old) (E.failed err.old))
         (sink (E.contents err.new) (E.failed err.new))
         (status_of result) }
 {
-    match order.without(alloc, obstacle.text(), obstacle.path(order)) {
-        Ok(response) => finish(&response, out, err),
+    match order.without(alloc, obstacle.text(), obstacle.path(&order)) {
+        Ok(response) => {
+            drop(order);
+            finish(&response, out, err)
+        }
         Err(AllocError) => run_out_unserved(order, err),
     }
 }
 
 /// Tells that memory ran out before anything was run, behind what is to be warned of.
-fn run_out_unserved<E: Output>(order: &Order<'_>, err: &mut E) -> Status
-    ensures { RunsOutBehind order.now
+fn run_out_unserved<E: Output>(order: Order<'_>, err: &mut E) -> Status
+    ensures { RunsOutBehind order.entry
         (sink (E.contents err.old) (E.failed err.old))
         (sink (E.contents err.new) (E.failed err.new))
         (status_of result) }
 {
     tell(err, order.warnings.as_slice());
+    drop(order);
     run_out(err)
 }
 
@@ -144,8 +148,10 @@ fn serve_by<
     ensures cause { status_of result.0 ≡ cause_status result.1 }
 {
     let end = run_daemon(rt, alloc, checked, clock, runners, &OpenGate, store, log);
-    tell(err, farewell(end.cause).as_bytes());
-    (status_for(end.cause), end.cause)
+    let cause = end.cause;
+    drop(end);
+    tell(err, farewell(cause).as_bytes());
+    (status_for(cause), cause)
 }
 
 /// What is served behind an order, and the clock that goes on.
@@ -157,7 +163,7 @@ struct Next<'a, R> {
 
 /// Lets a clock go on to the minute that it is now, which is that in which the next plan opens, and
 /// notes which minutes belong to no plan.
-fn note_gap<R: Files + Clock + Wait, W: Write>(
+fn note_gap<R: Clock + Wait, W: Write>(
     alloc: Global,
     hand: &mut Hand<'_, '_, R, W>,
     clock: &mut MachineClock<'_, R, Idle>,
@@ -176,21 +182,25 @@ fn note_gap<R: Files + Clock + Wait, W: Write>(
 }
 
 /// What is served behind these words, if a plan was accepted and the daemon has stopped for it.
-fn next_of<'a, R: Clock>(
+fn next_of<'a, R: Clock + Wait, W: Write>(
+    alloc: Global,
     cause: Cause,
     accepted: Option<Accepted>,
     words: &RunWords<'a>,
     clock: MachineClock<'a, R, Idle>,
+    hand: &mut Hand<'_, '_, R, W>,
 ) -> Option<Next<'a, R>>
     ensures { IfSome result (λ next. IsNextOf cause (asked_run words.entry.now) next.order) }
 {
-    match (cause, accepted) {
-        (Cause::Stopped, Some(accepted)) => {
-            let order = accepted.order(*words);
-            Some(Next { order, clock })
-        }
-        _ => None,
+    let accepted = accepted?;
+    if cause != Cause::Stopped {
+        drop(accepted);
+        return None;
     }
+    let mut clock = clock;
+    note_gap(alloc, hand, &mut clock);
+    let order = accepted.order(*words);
+    Some(Next { order, clock })
 }
 
 /// Warns, and runs what is ordered on the machine's clock until it ends, and answers with what is
@@ -257,26 +267,15 @@ fn serve_on<
     call_hooks(rt, alloc, &words, streams, &mut hand);
     hand.note(closing(cause));
     let offset = clock.offset();
-    let (mut clock, watch) = clock.resumed(offset, Idle);
-    let accepted = watch.into_accepted();
-    if cause == Cause::Stopped && accepted.is_some() {
-        note_gap(alloc, &mut hand, &mut clock);
-    }
-    (status, next_of(cause, accepted, &words, clock))
+    let (clock, watch) = clock.resumed(offset, Idle);
+    let next = next_of(alloc, cause, watch.accepted, &words, clock, &mut hand);
+    drop(hand);
+    drop(log);
+    (status, next)
 }
 
 /// How many files of each job are kept in the folder for what jobs print, where that isn't said.
 const KEPT: u64 = 30;
-
-/// What the runners are made with, by the words. A log without times doesn't tell signals.
-fn runner_words<'a>(words: &RunWords<'a>) -> RunnerWords<'a> {
-    RunnerWords {
-        has_home: words.home,
-        tells_signals: words.log.is_some(),
-        output: words.output,
-        keep: words.keep.unwrap_or(KEPT),
-    }
-}
 
 /// Runs one order until it ends. Without `--log` the log is written to standard output. A runner is
 /// made for each unit of the plan's capacity.
@@ -313,25 +312,27 @@ fn serve_one<
 {
     stamps.begin_anew();
     let Ok(jobs) = notes_of(alloc, order.checked.plan()) else {
-        return (run_out_unserved(&order, err), None);
+        return (run_out_unserved(order, err), None);
     };
     let words = order.words;
     let number = order.checked.plan().capacity();
-    let Ok(runners) = runners_by(alloc, number, runner_words(&words), new_runner) else {
-        return (run_out_unserved(&order, err), None);
+    let setup = RunnerWords {
+        has_home: words.home,
+        // a log without times doesn't tell signals
+        tells_signals: words.log.is_some(),
+        output: words.output,
+        keep: words.keep.unwrap_or(KEPT),
+    };
+    let Ok(runners) = runners_by(alloc, number, setup, new_runner) else {
+        return (run_out_unserved(order, err), None);
     };
     let jobs = jobs.as_slice();
     match words.log {
-        None => {
+        None | Some("-") => {
+            let is_timed = words.log.is_some();
             serve_on(
-                rt, alloc, order, words, clock, jobs, streams, files, stamps, runners, out, false,
-                err,
-            )
-        }
-        Some("-") => {
-            serve_on(
-                rt, alloc, order, words, clock, jobs, streams, files, stamps, runners, out, true,
-                err,
+                rt, alloc, order, words, clock, jobs, streams, files, stamps, runners, out,
+                is_timed, err,
             )
         }
         Some(path) => match open_log(rt, path) {
@@ -342,7 +343,7 @@ fn serve_one<
                     true, err,
                 )
             }
-            Err(_) => (refuse(alloc, &order, Obstacle::NoLog, out, err), None),
+            Err(_) => (refuse(alloc, order, Obstacle::NoLog, out, err), None),
         },
     }
 }
@@ -386,6 +387,7 @@ fn serve_in_turn<
             return status;
         };
         if files.stop.is_there(rt) {
+            drop(next);
             return status;
         }
         order = next.order;
@@ -460,13 +462,15 @@ pub fn serve<
         (status_of result) }
 {
     let Ok(files) = DaemonFiles::of(alloc, order.words.stamps) else {
-        return run_out_unserved(&order, err);
+        return run_out_unserved(order, err);
     };
     if order.words.home && Home::of_process(rt, alloc).is_none() {
-        return refuse(alloc, &order, Obstacle::NoHome, out, err);
+        drop(files);
+        return refuse(alloc, order, Obstacle::NoHome, out, err);
     }
     if !has_output(rt, order.words.output) {
-        return refuse(alloc, &order, Obstacle::NoOutput, out, err);
+        drop(files);
+        return refuse(alloc, order, Obstacle::NoOutput, out, err);
     }
     match enter(rt, alloc, order.words.stamps, &files) {
         Ok((mut stamps, _lock)) => {
@@ -482,6 +486,6 @@ pub fn serve<
                 &new_runner,
             )
         }
-        Err(obstacle) => refuse(alloc, &order, obstacle, out, err),
+        Err(obstacle) => refuse(alloc, order, obstacle, out, err),
     }
 }

@@ -7,11 +7,11 @@ use cs_ask::reply_text;
 use cs_files::Status;
 use cs_machine::{Attendant, ClockBack, RequestFile, ToldFile};
 use std::alloc::{AllocError, Global};
-use std::io;
 use std::io::Write;
 use std::process::Processes;
 use std::rt::{Clock, Files};
 use std::sync::Wait;
+use std::{io, mem};
 
 /// The files by which a daemon is asked, answers and tells its state.
 #[derive(Drop)]
@@ -53,7 +53,8 @@ pub(crate) struct Watch<'a, 'r, R, W> {
     hand: Hand<'a, 'r, R, W>,
     /// The file that asks for a reload stays, though it was answered.
     is_passed_over: bool,
-    accepted: Option<Accepted>,
+    /// The plan that was accepted, if one was.
+    pub(crate) accepted: Option<Accepted>,
 }
 
 impl<'a, 'r, R, W> Watch<'a, 'r, R, W> {
@@ -75,11 +76,6 @@ impl<'a, 'r, R, W> Watch<'a, 'r, R, W> {
             is_passed_over: false,
             accepted: None,
         }
-    }
-
-    /// The plan that was accepted, if one was.
-    pub(crate) fn into_accepted(self) -> Option<Accepted> {
-        self.accepted
     }
 }
 
@@ -121,13 +117,14 @@ impl<'a, 'r, R: Files + Clock + Wait, W: Write> Watch<'a, 'r, R, W> {
 
     /// Takes an accepted plan, and answers with what is to be warned of, unless that can't be told.
     fn take(&mut self, accepted: Accepted) -> bool {
-        if !self.answer(Status::Done, accepted.warnings(), b"") {
+        if !self.answer(Status::Done, accepted.warnings.as_slice(), b"") {
             self.hand.note(b"can't answer, the old plan goes on");
+            drop(accepted);
             return false;
         }
         self.hand
             .note_end(b"reload accepted, the runs under way end first");
-        self.accepted = Some(accepted);
+        drop(mem::replace(&mut self.accepted, Some(accepted)));
         true
     }
 

@@ -10,32 +10,6 @@ use cs_crontab::{Line, When};
 use cs_files::{Response, Tables};
 use std::alloc::{AllocError, Global};
 
-/// Adds what is printed of a command line.
-fn add_line(
-    alloc: Global,
-    text: &mut Vec<u8>,
-    line: &Line,
-    question: Question,
-) -> Result<(), AllocError>
-    ensures { OnOk result (text.new.items ≡ text.old.items ++ line_text question line.now) }
-{
-    let number = line.number();
-    match line.when() {
-        When::At(schedule) => add_job(
-            alloc,
-            text,
-            number,
-            schedule,
-            question.day(),
-            question.max(),
-        ),
-        When::Reboot => {
-            text.extend_from_slice(format!(in alloc; "line {number}: at reboot\n")?.as_bytes())?;
-            Ok(())
-        }
-    }
-}
-
 /// Adds what is printed of command lines.
 fn add_lines(
     alloc: Global,
@@ -46,8 +20,16 @@ fn add_lines(
     ensures { OnOk result
         (text.new.items ≡ text.old.items ++ flat_map (line_text question) lines.now) }
 {
+    let (day, max) = (question.day(), question.max());
     for line in lines {
-        add_line(alloc, text, line, question)?;
+        let number = line.number();
+        match line.when() {
+            When::At(schedule) => add_job(alloc, text, number, schedule, day, max)?,
+            When::Reboot => {
+                let words = format!(in alloc; "line {number}: at reboot\n")?;
+                text.extend_from_slice(words.as_bytes())?;
+            }
+        }
     }
     Ok(())
 }

@@ -152,22 +152,14 @@ pub fn add_catch_up(
     add_windows(alloc, text, windows.as_slice())
 }
 
-/// Adds the weekday and the end of the line.
-#[tactic(auto, unfolding(crate::specs::DayText::weekday_part))]
-fn add_weekday(text: &mut Vec<u8>, dow: u8) -> Result<(), AllocError>
-    ensures { OnOk result (text.new.items ≡ text.old.items ++ weekday_part dow) }
-{
-    text.push(b' ')?;
-    text.extend_from_slice(weekday_name(dow).as_bytes())?;
-    text.push(b'\n')?;
-    Ok(())
-}
-
-/// Adds the line of the date.
-#[tactic(auto, using(crate::proofs::TextLemmas::two_parts), unfolding(crate::specs::DayText::date_line))]
+/// Adds the line of the date, with its weekday.
+#[tactic(auto, using(crate::proofs::TextLemmas::two_parts), unfolding(crate::specs::DayText::date_line, crate::specs::DayText::weekday_part))]
 pub fn add_date(text: &mut Vec<u8>, day: Day) -> Result<(), AllocError>
     ensures { OnOk result (text.new.items ≡ text.old.items ++ date_line day) }
 {
     text.extend_from_slice(day_text(day).as_slice())?;
-    add_weekday(text, kind_of(day).dow())
+    text.push(b' ')?;
+    text.extend_from_slice(weekday_name(kind_of(day).dow()).as_bytes())?;
+    text.push(b'\n')?;
+    Ok(())
 }

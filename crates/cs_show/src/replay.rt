@@ -9,7 +9,6 @@ ghost use Rattle.cs_report.specs.Faults.{Means as MeansScript};
 ghost use Rattle.cs_show.specs.Replayed.{FindsScript, IsReplayed, IsReplyTo, IsToldBy};
 ghost use Rattle.cs_show.specs.Replayed.{MeansGiven, MeansLog, MeansReply, ReadsPlan, Replies};
 ghost use Rattle.cs_show.specs.Replayed.{TellsScript, too_long};
-ghost use Rattle.cs_show.specs.Verdict.{MeansPart};
 ghost use Rattle.cs_files.specs.Trouble.{CameTo, InScript, IsHonestOf, IsOfContent, trouble};
 ghost use Rattle.cs_files.specs.Turn.{replay_paths, some_path};
 
@@ -66,20 +65,6 @@ fn script_of<'a>(alloc: Global, plan: &Plan, bytes: &[u8]) -> Result<NumberedScr
     }
 }
 
-/// The script that the bytes denote under the plan; with `judge` they may be what `judge` prints.
-fn script_in<'a>(
-    alloc: Global,
-    plan: &Plan,
-    judge: bool,
-    bytes: Vec<u8>,
-) -> Result<NumberedScript, Fault<'a>>
-    ensures value { MeansIt (MeansPart plan.now judge) InScript bytes.items result }
-    ensures status { IfErr result IsOfContent }
-{
-    let bytes = as_script(judge, bytes);
-    script_of(alloc, plan, bytes.as_slice())
-}
-
 /// The text of the script that a log tells, or none where either is too long.
 fn told_by(alloc: Global, plan: &Plan, log: &[u8]) -> Result<Option<Vec<u8>>, AllocError>
     ensures { IfOk result (λ script. IsToldBy log.now (option_map (λ t. t.items) script)) }
@@ -127,7 +112,7 @@ fn script_given<'a>(
     if log {
         script_told(alloc, plan, bytes.as_slice())
     } else {
-        script_in(alloc, plan, judge, bytes)
+        script_of(alloc, plan, as_script(judge, bytes).as_slice())
     }
 }
 

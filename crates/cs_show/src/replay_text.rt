@@ -106,14 +106,9 @@ fn push_moment(text: &mut Vec<u8>, core: &Core) -> Result<(), AllocError>
     ensures { OnOk result (text.new.items
         ≡ text.old.items ++ (side core.now.state.up ++ minute_text core.now.state.now)) }
 {
-    text.extend_from_slice(side(core.is_up()).as_bytes())?;
+    let side = if core.is_up() { "up " } else { "down " };
+    text.extend_from_slice(side.as_bytes())?;
     text.extend_from_slice(&date_text(core.now()))
-}
-
-fn side(up: bool) -> &'static str
-    ensures { result.now ≡ side up }
-{
-    if up { "up " } else { "down " }
 }
 
 /// Adds the line of the state.

@@ -5,7 +5,7 @@ ghost use Rattle.cs_verdict.specs.Story.{comment, on_one_line};
 use crate::breach::{Breach, takes_part};
 use cs_civil::{Bytes, FIRST_MINUTE, LAST_MINUTE, Minute, date_text, push_number};
 use cs_counterexample::{Shown, push_run_name};
-use cs_history::{Event, Going, Mode, Run, Script};
+use cs_history::{Event, Going, Run, Script};
 use cs_place::push_shown;
 use cs_plan::{Job, Plan};
 use std::alloc::{AllocError, Global};
@@ -23,22 +23,15 @@ fn push_on_one_line(text: &mut Vec<u8>, words: &[u8]) -> Result<(), AllocError>
     Ok(())
 }
 
-/// Adds a comment of a script.
+/// Adds a comment of a script for each of these words. The only error is out of memory.
 #[tactic(auto, unfolding(crate::specs::Story::comment))]
-fn push_comment(text: &mut Vec<u8>, words: &[u8]) -> Result<(), AllocError>
-    ensures { OnOk result (text.new.items ≡ text.old.items ++ comment words.now) }
-{
-    text.extend_from_slice(b"# ")?;
-    push_on_one_line(text, words)?;
-    text.extend_from_slice(b"\n")
-}
-
-/// Adds a comment for each of these words. The only error is out of memory.
 pub fn push_comments(text: &mut Vec<u8>, story: &[Bytes]) -> Result<(), AllocError>
     ensures { OnOk result (text.new.items ≡ text.old.items ++ flat_map comment story.now) }
 {
     for words in story {
-        push_comment(text, words.as_slice())?;
+        text.extend_from_slice(b"# ")?;
+        push_on_one_line(text, words.as_slice())?;
+        text.extend_from_slice(b"\n")?;
     }
     Ok(())
 }
@@ -99,16 +92,8 @@ fn push_group_of(text: &mut Vec<u8>, plan: &Plan, job: Job) -> Result<(), AllocE
     }
 }
 
-/// How declarations write a mode.
-fn mode_text(mode: Mode) -> &'static str {
-    match mode {
-        Mode::Plain => "none",
-        Mode::Skip => "skip",
-        Mode::Try => "try",
-        Mode::Wait => "wait",
-        Mode::Shared => "shared",
-    }
-}
+/// How declarations write each mode, in the order of [`Mode`].
+const MODES: [&str; 5] = ["none", "skip", "try", "wait", "shared"];
 
 /// Adds what is declared of a job: `max 30, weight 1, group disk, mode wait`.
 pub(crate) fn push_terms(
@@ -127,7 +112,7 @@ pub(crate) fn push_terms(
     text.extend_from_slice(b", group ")?;
     push_group_of(text, plan, job)?;
     text.extend_from_slice(b", mode ")?;
-    text.extend_from_slice(mode_text(job.mode()).as_bytes())
+    text.extend_from_slice(MODES[job.mode() as usize].as_bytes())
 }
 
 /// Adds a minute, the first or the last that has a date where it has none.

@@ -127,24 +127,29 @@ fn looks_at_the_time(rt: HostRuntime) {
     }
 }
 
+/// Whether a clock that is asked to end when it is asked for this time sleeps and asks so.
+fn ends_when_asked(end: u64) -> bool {
+    let time = Time::new(SECOND);
+    let asked = Cell::new(0);
+    let attendant = Counting { asked: &asked, end };
+    let mut clock = MachineClock::new(&time, 0, None, attendant);
+    if next(&mut clock, 0) != at(MINUTE) {
+        return false;
+    }
+    for seconds in 1..end {
+        let answer = next(&mut clock, MINUTE);
+        if answer != at(MINUTE) || (time.slept.get(), asked.get()) != (seconds, seconds) {
+            return false;
+        }
+    }
+    next(&mut clock, MINUTE) == Tick::Stop && (time.slept.get(), asked.get()) == (end, end)
+}
+
 /// It sleeps for a second before its second answer, the third and so on, and then is asked to end,
 /// though its minute could be told.
 #[test]
 fn asked_to_end(rt: HostRuntime) {
     for end in 1..5 {
-        let time = Time::new(SECOND);
-        let asked = Cell::new(0);
-        let attendant = Counting { asked: &asked, end };
-        let mut clock = MachineClock::new(&time, 0, None, attendant);
-        assert!(rt; next(&mut clock, 0) == at(MINUTE), "{end}");
-        for seconds in 1..end {
-            assert!(rt; next(&mut clock, MINUTE) == at(MINUTE), "{end}");
-            assert!(rt;
-                (time.slept.get(), asked.get()) == (seconds, seconds),
-                "{end}"
-            );
-        }
-        assert!(rt; next(&mut clock, MINUTE) == Tick::Stop, "{end}");
-        assert!(rt; (time.slept.get(), asked.get()) == (end, end), "{end}");
+        assert!(rt; ends_when_asked(end), "{end}");
     }
 }

@@ -5,9 +5,12 @@ use cs_device::{Stamp, StampStore};
 use cs_machine::StampsFolder;
 use std::alloc::{Allocator, Global};
 use std::cell::Cell;
-use std::fs::{Metadata, OpenFile, OpenOptions};
+use std::fs::{Metadata, OpenFile, OpenOptions, Permissions};
 use std::io;
-use std::io::{ErrorKind, Read, Seek, SeekFrom, Write};
+use std::io::{ErrorKind, PipeReader, PipeWriter, Read, Seek, SeekFrom, Write};
+use std::os::fd::BorrowedFd;
+use std::os::unix::net::SocketAddr;
+use std::path::PathBuf;
 use std::process::id;
 use std::rt::Files;
 
@@ -33,7 +36,8 @@ impl Life {
     }
 }
 
-/// The machine's files, in which nothing more happens once it has ended.
+/// The machine's files, in which nothing more happens once it has ended. What a trait answers by itself
+/// would be dearer to prove here than to pass on.
 #[derive(Drop)]
 struct Mortal<'a, R> {
     rt: &'a R,
@@ -138,6 +142,46 @@ impl<'a, R: Files> Files for Mortal<'a, R> {
     fn remove_dir_all<B: Allocator>(&self, alloc: B, path: &str) -> io::Result<()> {
         self.rt.remove_dir_all(alloc, path)
     }
+
+    fn canonicalize<B: Allocator>(&self, alloc: B, path: &str) -> io::Result<PathBuf<B>> {
+        self.rt.canonicalize(alloc, path)
+    }
+
+    fn read_link<B: Allocator>(&self, alloc: B, path: &str) -> io::Result<PathBuf<B>> {
+        self.rt.read_link(alloc, path)
+    }
+
+    fn hard_link(&self, original: &str, link: &str) -> io::Result<()> {
+        self.rt.hard_link(original, link)
+    }
+
+    fn set_permissions(&self, path: &str, permissions: Permissions) -> io::Result<()> {
+        self.rt.set_permissions(path, permissions)
+    }
+
+    fn symlink(&self, original: &str, link: &str) -> io::Result<()> {
+        self.rt.symlink(original, link)
+    }
+
+    fn pipe(&self) -> io::Result<(PipeReader, PipeWriter)> {
+        self.rt.pipe()
+    }
+
+    fn chown(&self, path: &str, user: Option<u32>, group: Option<u32>) -> io::Result<()> {
+        self.rt.chown(path, user, group)
+    }
+
+    fn lchown(&self, path: &str, user: Option<u32>, group: Option<u32>) -> io::Result<()> {
+        self.rt.lchown(path, user, group)
+    }
+
+    fn create_dir_with_mode(&self, path: &str, mode: u32) -> io::Result<()> {
+        self.rt.create_dir_with_mode(path, mode)
+    }
+
+    fn bind_unix(&self, socket: BorrowedFd<'_>, address: &SocketAddr) -> io::Result<()> {
+        self.rt.bind_unix(socket, address)
+    }
 }
 
 /// What a new look at a folder says of its stamp. None where there is no such folder.
@@ -174,7 +218,9 @@ fn write_until<R: Files + AllocGlobal>(rt: &R, folder: &str, day: Day, calls: u6
 
 /// How many calls the machine makes, whether the write is told as done and which calls it made, and
 /// whether the new stamp stands.
-const ROWS: [(u64, (bool, u64), bool); 8] = [
+type Row = (u64, (bool, u64), bool);
+
+const ROWS: [Row; 8] = [
     (0, (false, 0), false),
     (1, (false, 1), false),
     (2, (false, 12), false),
@@ -185,6 +231,15 @@ const ROWS: [(u64, (bool, u64), bool); 8] = [
     (7, (true, 123_413), true),
 ];
 
+/// Whether a write of the new day over the old one goes as the row tells.
+fn goes_so<R: Files + AllocGlobal>(rt: &R, folder: &str, old: Day, new: Day, row: Row) -> bool {
+    let (calls, written, is_new) = row;
+    let stays = if is_new { new } else { old };
+    is_written(rt, rt.alloc(), folder, old)
+        && write_until(rt, folder, new, calls) == written
+        && stamp(rt, rt.alloc(), folder) == Some(Stamp::On(stays))
+}
+
 /// Opened, written and synced beside, renamed, the folder opened and synced: before the renaming
 /// the old stamp stands, from then on the new one. What a crash left beside is in nobody's way.
 #[test]
@@ -193,14 +248,8 @@ fn ends_in_a_write(rt: HostRuntime) {
     let folder = folder.as_str();
     let old = Day::new(19_753).expect(&rt, "a day");
     let new = Day::new(19_754).expect(&rt, "a day");
-    for (calls, written, is_new) in ROWS {
-        let stays = if is_new { new } else { old };
-        assert!(rt; is_written(&rt, rt.alloc(), folder, old));
-        assert!(rt; write_until(&rt, folder, new, calls) == written, "{calls}");
-        assert!(rt;
-            stamp(&rt, rt.alloc(), folder) == Some(Stamp::On(stays)),
-            "{calls}"
-        );
+    for row in ROWS {
+        assert!(rt; goes_so(&rt, folder, old, new, row), "{}", row.0);
     }
     put(&rt, folder, "job new", b"2024013");
     assert!(rt; stamp(&rt, rt.alloc(), folder) == Some(Stamp::On(new)));

@@ -39,8 +39,12 @@ impl<'a, R: Abort + AllocGlobal> Shelf<'a, R> {
 
     /// Whether these are all reads so far.
     fn has_read(&self, paths: &[&str]) -> bool {
+        for (read, path) in self.reads.as_slice().iter().zip(paths) {
+            if read.as_str() != *path {
+                return false;
+            }
+        }
         self.reads.len() == paths.len()
-            && (self.reads.iter().zip(paths)).all(|(read, path)| read.as_str() == *path)
     }
 
     /// What the next read begins with: what is left behind so many bytes, or all after the end.

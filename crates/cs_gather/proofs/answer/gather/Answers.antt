@@ -16,8 +16,8 @@ use Rattle.cs_gather.proofs.answer.gather.Goals as goal
 pub returns-in_err-push_named-clause-turn : goal.returns-in_err-push_named-clause-turn
 returns-in_err-push_named-clause-turn g c = none_read (map (λ given. given.path) c.args.found.items ++ gather_paths (asked_gather c.args.request.now)) (g.I.Inputs.reads c.args.inputs.now)
 
-pub returns-in_err-gathering-clause-turn : goal.returns-in_err-gathering-clause-turn
-returns-in_err-gathering-clause-turn g c = none_read (map (λ given. given.path) c.args.found.items ++ gather_paths (asked_gather c.args.request.now)) (g.I.Inputs.reads c.args.inputs.now)
+pub returns-in_err-from_slice-clause-turn : goal.returns-in_err-from_slice-clause-turn
+returns-in_err-from_slice-clause-turn g c = none_read (map (λ given. given.path) c.args.found.items ++ gather_paths (asked_gather c.args.request.now)) (g.I.Inputs.reads c.args.inputs.now)
 
 pub returns-in-Ok-clause-value : goal.returns-in-Ok-clause-value
 returns-in-Ok-clause-value g c = λ fresh.
@@ -25,7 +25,7 @@ returns-in-Ok-clause-value g c = λ fresh.
     let failed = g.I.Inputs.failed c.add_tables.new.inputs in
     let (named, is, are) = c.in_ok-push_named.ensures in
     let commands = c.add_tables.new.gathering.commands.items in
-    let some = subst (λ (old : List Gathered). AllAdded files c.as_slice-all.result.now old commands) c.in_ok-gathering.ensures (c.in-Ok.ensures.adds fresh) in
+    let some = subst (λ (old : List Gathered). AllAdded files c.as_slice-all.result.now old commands) c.new.ensures.items (c.in-Ok.ensures.adds fresh) in
     let added = subst (λ (ts : List Given). AllAdded files ts [] commands) (c.as_slice-all.ensures.value ∙ is) some in
     if_ok (ShowsGathered commands) (λ (r : Ending). (n : List Given) × AreNamed (asked_gather c.args.request.now) n × GathersAll files failed (c.args.found.items ++ n) r) c.show.result (λ r shown. (named, are, inl (commands, added, shown))) c.show.ensures
 
@@ -50,7 +50,7 @@ returns-in-Err-clause-value g c = λ fresh.
     let fault = c.in-Err.fault in
     let notes = c.as_slice.result.now in
     let told = λ (r : Ending). option_map (ends notes) (trouble fault) ≡ Some r in
-    let some = subst (λ (old : List Gathered). IfSome (trouble fault) (FirstStops files failed c.as_slice-all.result.now old)) c.in_ok-gathering.ensures (c.in-Err.ensures.stops fresh) in
+    let some = subst (λ (old : List Gathered). IfSome (trouble fault) (FirstStops files failed c.as_slice-all.result.now old)) c.new.ensures.items (c.in-Err.ensures.stops fresh) in
     let first = subst (λ (ts : List Given). IfSome (trouble fault) (FirstStops files failed ts [])) (c.as_slice-all.ensures.value ∙ is) some in
     if_ok told (λ (r : Ending). (n : List Given) × AreNamed (asked_gather c.args.request.now) n × GathersAll files failed (c.args.found.items ++ n) r) c.response.result (λ r tells. (named, are, inr (ends_for (FirstStops files failed tables []) notes (trouble fault) r first tells))) c.response.ensures
 

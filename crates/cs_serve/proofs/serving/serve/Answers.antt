@@ -12,5 +12,5 @@ returns-then-is_none g c = alone c.args.order _ _ _ _ _ (refused NoHome c.args.o
 pub returns-then-not-has_output : goal.returns-then-not-has_output
 returns-then-not-has_output g c = alone c.args.order _ _ _ _ _ (refused NoOutput c.args.order _ _ _ _ _ c.refuse-then-not-has_output.ensures)
 
-pub returns-in-Err : goal.returns-in-Err
-returns-in-Err g c = alone c.args.order _ _ _ _ _ (refused c.in-Err.obstacle c.args.order _ _ _ _ _ c.refuse-in-Err.ensures)
+pub returns : goal.returns
+returns g c = alone c.args.order _ _ _ _ _ (refused c.in-Err.obstacle c.args.order _ _ _ _ _ c.refuse-in-Err.ensures)

@@ -28,5 +28,5 @@ pub returns-clause-next : goal.returns-clause-next
 returns-clause-next g c =
     let err-old = sink (g.E.Output.contents c.args.err.now) (g.E.Output.failed c.args.err.now) in
     let err-new = sink (g.E.Output.contents c.serve_by-status.new.err) (g.E.Output.failed c.serve_by-status.new.err) in
-    IfSome_then c.next_of.result c.next_of.ensures
+    IfSome_then c.next_of-next.result c.next_of-next.ensures
     (λ next is. followed c.args.order err-old err-new c.serve_by-status.result.1 (status_of c.serve_by-status.result.0) (asked_run c.args.words) next.order (returns-clause-served g c) c.serve_by-status.ensures.cause c.requires.words is)

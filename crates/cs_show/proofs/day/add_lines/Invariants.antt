@@ -4,4 +4,4 @@ use Rattle.cs_show.proofs.day.add_lines.Given as goal
 
 -- the text so far and that of the lines that are left
 abbrev pub invariant-loop-line : goal.invariant-loop-line
-invariant-loop-line l = l.text.items ++ flat_map (line_text l.question) (drop l.line-index l.lines) ≡ l.initial.text.items ++ flat_map (line_text l.question) l.lines
+invariant-loop-line l = l.text.items ++ flat_map (line_text l.fn.question) (drop l.line-index l.lines) ≡ l.initial.text.items ++ flat_map (line_text l.fn.question) l.lines

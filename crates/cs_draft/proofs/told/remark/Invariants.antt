@@ -1,5 +1,5 @@
 use Rattle.std.proofs.Common.{length}
-use Rattle.cs_draft.proofs.told.Told.remark.Given as goal
+use Rattle.cs_draft.proofs.told.remark.Given as goal
 
 abbrev pub decreases-loop-rest : goal.decreases-loop-rest
 decreases-loop-rest l = length l.rest

@@ -1,29 +1,58 @@
 //! The program over the machine's words, files and clock.
 use crate::now::{Now, local_offset, read_clock};
 use crate::run::run_words;
-use cs_args::{Request, UsageFault, parse_words};
+use cs_args::{Request, parse_words};
 use cs_files::{Status, run_out, words_of};
 use cs_io::{Machine, Output};
 use jiff_core::Timestamp;
+use std::alloc::Global;
 use std::process::ExitCode;
 use std::rt::{Clock, Env, Files};
 use std::thread::Threads;
 
+/// Says that plans are being judged, if the words ask for that many times over.
+fn announce<E: Output>(alloc: Global, words: &[String], err: &mut E) {
+    match parse_words(alloc, words) {
+        Ok(Request::Advise(_)) | Ok(Request::Room(_)) => {
+            let _ = err.print(
+                b"cronsafe: judging changed plans, which can take a while\n".as_slice(),
+            );
+        }
+        _ => {}
+    }
+}
+
+/// Whether what the words ask can't be answered without a clock.
+fn asks_time(alloc: Global, words: &[String]) -> bool {
+    match parse_words(alloc, words) {
+        Ok(Request::Lint(request)) => request.zone.is_some(),
+        _ => false,
+    }
+}
+
+/// Warns that `TZ` names no time zone, if the words ask for declarations, which tell the offset.
+fn warn_of_zone<E: Output>(alloc: Global, words: &[String], err: &mut E) {
+    match parse_words(alloc, words) {
+        Ok(Request::Draft(_)) => {
+            let _ = err.print(
+                b"warning: TZ names no known time zone and is taken as UTC\n".as_slice(),
+            );
+        }
+        _ => {}
+    }
+}
+
 /// What time it is. Where it isn't known and isn't asked for, it is 1970-01-01 00:00 UTC. A time zone
-/// that isn't known is UTC: a draft, which tells the offset, warns of it. Where there is no answer,
-/// says why, and gives the status.
+/// that isn't known is UTC. Where there is no answer, says why, and gives the status.
 fn time_for<R: Clock + Env + Files + AllocGlobal, E: Output>(
     rt: &R,
-    asked: &Result<Request<'_>, UsageFault>,
+    words: &[String],
     err: &mut E,
 ) -> Result<Now, Status> {
     let Some(instant) = read_clock(rt) else {
-        match asked {
-            Ok(Request::Lint(words)) if words.zone.is_some() => {
-                let _ = err.print(b"cronsafe: can't read the clock\n".as_slice());
-                return Err(Status::DeviceFailed);
-            }
-            _ => {}
+        if asks_time(rt.alloc(), words) {
+            let _ = err.print(b"cronsafe: can't read the clock\n".as_slice());
+            return Err(Status::DeviceFailed);
         }
         return Ok(Now {
             offset: 0,
@@ -33,11 +62,7 @@ fn time_for<R: Clock + Env + Files + AllocGlobal, E: Output>(
     let offset = match local_offset(rt, instant) {
         Ok(Some(offset)) => offset,
         Ok(None) => {
-            if let Ok(Request::Draft(_)) = asked {
-                let _ = err.print(
-                    b"warning: TZ names no known time zone and is taken as UTC\n".as_slice(),
-                );
-            }
+            warn_of_zone(rt.alloc(), words, err);
             0
         }
         Err(_) => return Err(run_out(err)),
@@ -45,9 +70,24 @@ fn time_for<R: Clock + Env + Files + AllocGlobal, E: Output>(
     Ok(Now { offset, instant })
 }
 
+/// The answer to these words, as a status.
+fn answered<R: Files + Input + Env + Clock + AllocGlobal + Threads + Sync, O: Output, E: Output>(
+    rt: &R,
+    is_watched: bool,
+    words: &[String],
+    out: &mut O,
+    err: &mut E,
+) -> Result<u8, Status> {
+    if is_watched {
+        announce(rt.alloc(), words, err);
+    }
+    let now = time_for(rt, words, err)?;
+    let mut inputs = Machine::new(rt);
+    Ok(run_words(rt, rt.alloc(), words, now, &mut inputs, out, err))
+}
+
 /// Runs the program on the machine's words, files and clock, with these two outputs, the second of
-/// which someone may watch: then it says that plans are being judged, if the words ask for that many
-/// times over.
+/// which someone may watch.
 pub(crate) fn run_program<
     R: Files + Input + Env + Clock + AllocGlobal + Threads + Sync,
     O: Output,
@@ -57,20 +97,8 @@ pub(crate) fn run_program<
         Ok(words) => words,
         Err(status) => return ExitCode::from(status.code()),
     };
-    let (alloc, words) = (rt.alloc(), words.as_slice());
-    let asked = parse_words(alloc, words);
-    match &asked {
-        Ok(Request::Advise(_)) | Ok(Request::Room(_)) if is_watched => {
-            let _ = err.print(
-                b"cronsafe: judging changed plans, which can take a while\n".as_slice(),
-            );
-        }
-        _ => {}
+    match answered(rt, is_watched, words.as_slice(), out, err) {
+        Ok(code) => ExitCode::from(code),
+        Err(status) => ExitCode::from(status.code()),
     }
-    let now = match time_for(rt, &asked, err) {
-        Ok(now) => now,
-        Err(status) => return ExitCode::from(status.code()),
-    };
-    let mut inputs = Machine::new(rt);
-    ExitCode::from(run_words(rt, alloc, words, now, &mut inputs, out, err))
 }

@@ -31,10 +31,11 @@ IsMovedBy false minutes old new = IsLater minutes new old
 abbrev pub IsShifted : Shift → When → When → Type 0
 IsShifted shift = IsMovedBy shift.is_later shift.minutes
 
--- how a change shifts the starts of a cron job: by no minute where it says nothing of them
+-- a shift by no minute
 abbrev pub unmoved : Shift
 unmoved = record { is_later = true; minutes = 0 }
 
+-- how a change shifts the starts of a cron job: by no minute where it says nothing of them
 abbrev pub shift_of : Change → ℕ → Shift
 shift_of (Alone start) job = if start.job == job then start.shift else unmoved
 shift_of (Both one other) job =

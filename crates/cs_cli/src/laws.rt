@@ -28,8 +28,8 @@ ghost use Rattle.cs_ruling.specs.declared.check.Claimed.{Claimed};
 /// with them to a plan, and a certificate that the rules accept. Every legal history of that plan
 /// in which each run ends within its declared time is safe, and each minute is calm.
 pub fn what_check_says()
-    ensures { (files : List ℕ → Option (List ℕ)) (a : AskedCheck) (w : List ℕ) (before after : Failed)
-        (ending : Ending) (given : Given) (certificate : List ℕ)
+    ensures { (files : List ℕ → Option (List ℕ)) (a : AskedCheck) (w : List ℕ)
+        (before after : Failed) (ending : Ending) (given : Given) (certificate : List ℕ)
         → Hold files a.table a.anacrontab a.declarations given
         → files a.certificate ≡ Some certificate
         → IsChecked a files w before after ending → ending.status ≡ 0

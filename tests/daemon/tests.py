@@ -257,7 +257,7 @@ def reloaded(room):
     room.stop()
     room.holds(printed="", ran="x\nz\n")
     _, texts = moments_and_texts(room.read("log").splitlines())
-    texts = [it for it in texts if not it.startswith("no plan behind ")]
+    texts = [it for it in texts if not it.startswith("no plan after ")]
     refused = texts.index("reload refused, the old plan goes on")
     wanted("the refusal", told.splitlines(), texts[refused + 1 : -2])
     kinds = [" ".join(it.split()[:2]) for it in texts[:refused] + texts[-2:]]
@@ -399,7 +399,7 @@ def reloaded_often(room):
     wanted("plans", 7, log.count(" running crontab "))
     due = [minute_of(it) for it in re.findall("started line 1 due (.+)", log)]
     lost = set()
-    for latest, now in re.findall("no plan behind (.+) up to (.+)", log):
+    for latest, now in re.findall("no plan after (.+) up to (.+)", log):
         lost |= set(range(minute_of(latest) + 1, minute_of(now) + 1))
     every = set(range(due[0], due[-1] + 1))
     wanted("minutes of the runs", sorted(every - lost), due)
@@ -528,7 +528,7 @@ def told_state(room):
     wanted("until", started[2], moment_text(times[1] + MAX * MINUTE))
     wanted("order of times", sorted([before, *times, after]), [before, *times, after])
     files = "crontab with declarations and certificate and anacrontab, capacity 1"
-    counts = "skipped 0, overruns 0, not started 0, outages 0, stamps not written 0, left out 0"
+    counts = "skipped 0, overruns 0, not started 0, outages 0, stamps not written 0, missed 0"
     wanted("lines", [files, counts], [lines[1], *lines[3:]])
     status, out, err = room.ask("status", "stamps", "--json")
     wanted("end of --json", (0, ""), (status, err))
@@ -549,7 +549,7 @@ def told_state(room):
         "running": [{"run": run, **lasting, "late": False, "may_meet": ""}],
         "waiting": [],
         "next_due": None,
-        **dict.fromkeys(("skipped", "overruns", "outages", "left_out", "not_started"), 0),
+        **dict.fromkeys(("skipped", "overruns", "outages", "missed", "not_started"), 0),
         "stamps_not_written": 0,
         "stamp_fault_at": None,
     }
@@ -660,7 +660,7 @@ def states_by_hand(room):
         ({"anacrontab": "my jobs"}, 0, "", ""),
         ({"next_due": None, "certificate_sha256": "0f" * 32}, 0, "", ""),
         ({"next_due": "line 3 due 2024-09-14 00:00"}, 0, "", ""),
-        *(({"left_out": count}, 0, "", "") for count in (0, 6, 2**64 - 1)),
+        *(({"missed": count}, 0, "", "") for count in (0, 6, 2**64 - 1)),
     ]
     for members, status, lines, err in rows:
         state = {**STATE, "at": moment_text(now), **members}
@@ -673,7 +673,7 @@ def states_by_hand(room):
         out += "line 2 due 2024-09-13 23:30 waits\n"
         if state.get("next_due"):
             out += f"next is {state['next_due']}\n"
-        out += f"{COUNTS}, left out {state.get('left_out', 0)}\n"
+        out += f"{COUNTS}, missed {state.get('missed', 0)}\n"
         wanted(f"status of {members}", (status, out, err), room.ask("status", "stamps"))
         as_it_is = room.ask("status", "--json", "stamps")
         wanted(f"status --json of {members}", (status, text, err), as_it_is)
@@ -1075,7 +1075,7 @@ def outage(room):
     run = f"line 1 due {date_text(first + 3)}"
     room.wait_for_line(f"ended {run} status 0", 2 * MINUTE)
     told = json.loads(room.ask("status", "stamps", "--json")[1])
-    wanted("outages, and runs left out", (1, 2), (told["outages"], told["left_out"]))
+    wanted("outages, and missed runs", (1, 2), (told["outages"], told["missed"]))
     room.end()
     room.holds([line, *runs(f"job a at {date_text(first)}", run)], line="x\n", ran="x\n")
 

@@ -222,7 +222,7 @@ fn push_waiting(lines: &mut Vec<u8>, value: &Value) -> Result<(), Misread> {
 }
 
 /// Adds a line of how often something went wrong. A daemon of an earlier version doesn't tell how many
-/// runs the outages left out.
+/// runs the outages missed.
 fn push_faults(alloc: Global, lines: &mut Vec<u8>, value: &Value) -> Result<(), Misread> {
     let members = [
         ("skipped ", "skipped"),
@@ -232,12 +232,12 @@ fn push_faults(alloc: Global, lines: &mut Vec<u8>, value: &Value) -> Result<(), 
         (", stamps not written ", "stamps_not_written"),
     ];
     push_counts(lines, value, &members)?;
-    let left_out = match value.get("left_out") {
+    let missed = match value.get("missed") {
         Some(count) => count.as_u64().ok_or(BAD_SHAPE)?,
         None => 0,
     };
-    lines.extend_from_slice(b", left out ")?;
-    push_number(alloc, lines, u128::from(left_out))?;
+    lines.extend_from_slice(b", missed ")?;
+    push_number(alloc, lines, u128::from(missed))?;
     lines.extend_from_slice(b"\n")?;
     Ok(())
 }
@@ -269,7 +269,7 @@ fn report_of(alloc: Global, value: &Value) -> Result<Report, Misread> {
 
 /// Reads the text of a daemon's state. A fault if it is no JSON, a member is absent or has another
 /// type, or a text in it holds a control character; other members are passed over. `next_due`,
-/// `left_out` and `certificate_sha256` may be absent, and so may a run's `until` and `may_meet`.
+/// `missed` and `certificate_sha256` may be absent, and so may a run's `until` and `may_meet`.
 pub fn read_report(alloc: Global, state: &[u8]) -> Result<Report, Misread> {
     let value = parse(alloc, state)?;
     report_of(alloc, &value)

@@ -1,7 +1,7 @@
 //! What a daemon does, as its log tells it.
 
 use crate::counts::Counts;
-use crate::left_out::left_out_by;
+use crate::missed::missed_by;
 use crate::setup::JobNote;
 use crate::starts::{is_last_of, note_run};
 use cs_civil::Bytes;
@@ -23,8 +23,8 @@ pub(crate) struct State {
     /// The names of the runs that wait for a lock.
     pub(crate) waiting: Vec<Bytes>,
     pub(crate) counts: Counts,
-    /// How many runs of the crontab the outages left out; the last count of 64 bits stays.
-    pub(crate) left_out: u64,
+    /// How many runs of the crontab the outages missed; the last count of 64 bits stays.
+    pub(crate) missed: u64,
     /// When a stamp last couldn't be written.
     pub(crate) stamp_fault_at: Option<u64>,
     pub(crate) is_stopping: bool,
@@ -65,7 +65,7 @@ impl State {
             late: Vec::new(alloc),
             waiting: Vec::new(alloc),
             counts: Counts::NONE,
-            left_out: 0,
+            missed: 0,
             stamp_fault_at: None,
             is_stopping: false,
             has_changed: true,
@@ -87,7 +87,7 @@ impl State {
             None => self.late.retain(|name| !is_last_of(words, name.as_slice())),
         }
         self.counts = self.counts.with(words);
-        self.left_out = self.left_out.saturating_add(left_out_by(words, jobs));
+        self.missed = self.missed.saturating_add(missed_by(words, jobs));
         if words.starts_with(b"stamp not written ") {
             self.stamp_fault_at = at;
         }

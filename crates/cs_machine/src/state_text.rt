@@ -155,7 +155,7 @@ pub(crate) fn state_text(
         ("skipped", Told::Count(state.counts.skipped)),
         ("overruns", Told::Count(state.counts.overruns)),
         ("outages", Told::Count(state.counts.outages)),
-        ("left_out", Told::Count(state.left_out)),
+        ("missed", Told::Count(state.missed)),
         ("not_started", Told::Count(state.counts.not_started)),
         (
             "stamps_not_written",

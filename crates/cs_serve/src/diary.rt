@@ -223,7 +223,7 @@ pub(crate) fn closing(cause: Cause) -> &'static [u8] {
 /// That the minutes behind the one and up to the other belong to no plan.
 pub(crate) fn gap_line(alloc: Global, latest: Minute, now: Minute) -> Result<Vec<u8>, AllocError> {
     let (latest, now) = (date_text(latest), date_text(now));
-    let front = b"no plan behind ".as_slice();
+    let front = b"no plan after ".as_slice();
     joined(alloc, &[front, &latest, b" up to ", &now])
 }
 

@@ -252,8 +252,8 @@ pub fn story(
         has_outage = has_outage || matches!(event, Event::Down);
     }
     if has_outage {
-        let words = b"an outage, from down to up, leaves out minutes that the breach does not \
-            need; what runs goes on";
+        let words = b"an outage, down to up, only skips minutes in which nothing relevant \
+            happens; jobs keep running";
         story.push(Bytes::from_slice(alloc, words)?)?;
     }
     Ok(story)

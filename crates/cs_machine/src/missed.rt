@@ -1,4 +1,4 @@
-//! How many runs of the crontab an outage leaves out.
+//! How many runs of the crontab an outage misses.
 
 use crate::next_due::is_due_on;
 use crate::setup::JobNote;
@@ -31,10 +31,10 @@ fn due_count(jobs: &[JobNote], minute: Minute) -> u64 {
     count
 }
 
-/// How many runs of these jobs' lines the outage that a line tells leaves out: those that are due
-/// behind the latest minute before it, up to and with that of coming up, in its first 366 days, so
+/// How many runs of these jobs' lines the outage that a line tells misses: those that are due
+/// after the latest minute before it, up to and with that of coming up, in its first 366 days, so
 /// that no line holds the log up for long; the last count of 64 bits stays. 0 for any other line.
-pub(crate) fn left_out_by(words: &[u8], jobs: &[JobNote]) -> u64 {
+pub(crate) fn missed_by(words: &[u8], jobs: &[JobNote]) -> u64 {
     let Some((latest, up)) = outage_in(words) else {
         return 0;
     };

@@ -8,6 +8,7 @@ line is 'N passed, M failed'.
 import argparse
 import difflib
 import os
+import re
 import signal
 import subprocess
 import sys
@@ -29,6 +30,11 @@ NO_CONFLICT = (
     b"note: no two jobs can conflict, unless one still runs when it starts again: no exclusive group "
     b"has two jobs, no job has mode skip, and all together fit into the capacity\n"
 )
+# A fault of a table or of declarations, what may follow it in place of lines that show it, and the
+# first of these.
+FAULT = re.compile(rb"cronsafe: (?:(?:ana)?crontab line (\d+)|declarations): (\d+ [A-Z]\w+.*)")
+HINT = re.compile(rb"cronsafe: (the table reads as|the longest time is|--from is)")
+SHOWN = re.compile(rb"(.+?):(\d+):(\d+): fault: (.+)")
 NAME = os.path.relpath(os.path.realpath(sys.argv[0]), TOP)
 
 
@@ -112,10 +118,40 @@ def itself(program, word):
     return program
 
 
-def called(program, words, folder, stdin=b"", seconds=10, **more):
+def is_shown(place, lines, text):
+    """Returns whether a line of a text is shown as it stands there, with a mark at the place."""
+    number, column = int(place[2]), int(place[3])
+    line = [*text.split(b"\n"), b""][number - 1]
+    plain = re.sub(rb"[\x00-\x08\x0a-\x1f\x7f]", b"?", line)
+    if len(line) > 160 or column > 100:
+        return lines[0].removeprefix(b"...").removesuffix(b"...") in plain
+    front = re.sub(rb"[^\t]", b" ", re.sub(rb"[\x80-\xbf]", b"", line[: column - 1]))
+    return lines[0] == plain and re.fullmatch(front + rb"\^~*", lines[1])
+
+
+def without_shown(err, text_of, is_declared):
+    """Returns what a call says without the lines that show a fault of a file, which have to be so."""
+    lines, kept = err.split(b"\n"), []
+    while lines:
+        kept.append(lines.pop(0))
+        fault, names = FAULT.fullmatch(kept[-1]), []
+        while fault and len(lines) > 2 and (place := SHOWN.fullmatch(lines[0])):
+            is_there = fault[1] in (None, b"0", place[2])
+            if not is_there or not is_shown(place, lines[1:], text_of(place[1])):
+                raise Fault(f"{place[0]!r} isn't shown: {lines[1:3]}")
+            names.append(place[4])
+            del lines[: 4 if lines[3].startswith(b"  line ") else 3]
+        is_wanted = fault and not HINT.match(lines[0]) and (fault[1] or is_declared)
+        if is_wanted and not any(it.startswith(fault[2] + b": ") for it in names):
+            raise Fault(f"no line shows {kept[-1]!r}: {names}")
+    return b"\n".join(kept)
+
+
+def called(program, words, folder, stdin=b"", seconds=10, is_whole=False, **more):
     """Returns status, standard output and standard error of a call of the program.
 
     A library that is preloaded and limits are for the program itself, not for the sh before it.
+    Unless the whole is asked for, the lines that show a fault of a file are looked at here.
     """
     if "preexec_fn" in more or "LD_PRELOAD" in more.get("env", ()):
         program = itself(program, words[0] if words else "")
@@ -131,6 +167,15 @@ def called(program, words, folder, stdin=b"", seconds=10, **more):
         os.killpg(ran.pid, signal.SIGKILL)
         ran.communicate()
         raise Fault(f"it ran for more than {seconds} seconds") from None
+    if err and words and not is_whole and os.fsencode(words[0]) != b"gather":
+
+        def text_of(path):
+            path = Path(folder, os.fsdecode(path))
+            return path.read_bytes() if path.is_file() else stdin
+
+        first, *rest = [os.fsencode(it) for it in words]
+        is_declared = first not in (b"day", b"chart", b"replay") or b"--declarations" in rest
+        err = without_shown(err, text_of, is_declared)
     return ran.returncode, out, err
 
 

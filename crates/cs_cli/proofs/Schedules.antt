@@ -5,7 +5,6 @@ use Rattle.clap.specs.Words.{Text}
 use Rattle.cs_crontab.specs.Crontab.{Table}
 use Rattle.cs_crontab.specs.Faults.{Means}
 use Rattle.cs_anacrontab.specs.Anacrontab.{Table as JobTable}
-use Rattle.cs_anacrontab.specs.Faults.{Means as MeansJobs}
 use Rattle.cs_decl.specs.Faults.{at_cron}
 use Rattle.cs_plan.specs.Answers.{Fault as DeclaredFault}
 use Rattle.cs_decl.specs.Join.{joined}
@@ -34,7 +33,7 @@ use Rattle.cs_theorem.specs.declared.check_fault.CheckFault.{CheckFault}
 use Rattle.cs_args.specs.Asked.{AskedCheck, AskedJudge, AskedMake, AskedRun}
 use Rattle.cs_io.specs.Files.{Failed}
 use Rattle.cs_files.specs.Fitting.{fitting, has_other_parts}
-use Rattle.cs_files.specs.Reads.{AndThen, Gives, MeansTable, PlacesIn, ReadsAs, ReadsEntries, ReadsFitting, ReadsJobs, ReadsTables, planned}
+use Rattle.cs_files.specs.Reads.{AndThen, Gives, Makes, MeansEntries, MeansJobTable, MeansTable, PlacesIn, ReadsAs, ReadsEntries, ReadsFitting, ReadsJobs, ReadsTables}
 use Rattle.cs_files.specs.Asked.{IsPlanned, both_of}
 use Rattle.cs_files.specs.Response.{Ending}
 use Rattle.cs_files.specs.declared.asked.Planned.{Planned}
@@ -81,7 +80,7 @@ jobs_denoted : (files : List ℕ → Option (List ℕ)) (anacrontab : Option Tex
 jobs_denoted files None None before after jobs holds read = let e = read.1 in cc
 jobs_denoted files None (Some bytes) before after jobs holds read = absurd holds
 jobs_denoted files (Some path) None before after jobs holds read = absurd holds
-jobs_denoted files (Some path) (Some bytes) before after jobs holds read = file_means files path MeansJobs InAnacrontab before after jobs bytes holds read
+jobs_denoted files (Some path) (Some bytes) before after jobs holds read = file_means files path MeansJobTable InAnacrontab before after jobs bytes holds read
 
 tables_denoted : (files : List ℕ → Option (List ℕ)) (table : Text) (anacrontab : Option Text) (declarations : Text) (given : Given) (before after : Failed) (both : Table × JobTable)
     → Hold files table anacrontab declarations given → ReadsTables files table anacrontab before after (Ok both)
@@ -97,23 +96,24 @@ tables_denoted files table anacrontab declarations given before after both hold 
 
 entries_denoted : (files : List ℕ → Option (List ℕ)) (path : Text) (before after : Failed) (d : Entries) (bytes : List ℕ)
     → files path ≡ Some bytes → ReadsEntries files path before after (Ok d) → declared_by bytes ≡ Ok d
-entries_denoted files path before after d bytes holds (inl read) = file_means files path (λ text e. declared_by text ≡ e) InDeclarations before after d bytes holds read
+entries_denoted files path before after d bytes holds (inl read) = file_means files path MeansEntries InDeclarations before after d bytes holds read
 entries_denoted files path before after d bytes holds (inr (same, long, (t, told, e))) = absurd (cc)
 
 -- a plan of which entries have the parts is the joined one, and no entry has others
-is_fitting : (r : Result Declared DeclaredFault) (first : Option ℕ) (plan : Declared) → Ok plan ≡ planned (r >>= λ p. unless p (at_cron faults.OtherParts first)) → (r ≡ Ok plan) × (first ≡ None)
-is_fitting (Ok p) None plan e = (cc, refl)
-is_fitting (Ok p) (Some i) plan e = absurd (cc)
-is_fitting (Err fault) first plan e = absurd (cc)
+is_fitting : (r : Result Declared DeclaredFault) (first : Option ℕ) (before after : Failed) (plan : Declared) → Makes (r >>= λ p. unless p (at_cron faults.OtherParts first)) before after (Ok plan)
+    → (r ≡ Ok plan) × (first ≡ None)
+is_fitting (Ok p) None before after plan (same, e) = (cc, refl)
+is_fitting (Ok p) (Some i) before after plan (same, (lines, e)) = absurd (cc)
+is_fitting (Err fault) first before after plan (same, (lines, e)) = absurd (cc)
 
 plan_denoted : (files : List ℕ → Option (List ℕ)) (table : Text) (anacrontab : Option Text) (declarations : Text) (given : Given) (before after before' after' : Failed) (both : Table × JobTable) (places : List Place) (plan : Declared)
     → Hold files table anacrontab declarations given → ReadsTables files table anacrontab before after (Ok both)
     → PlacesIn files table both.0 places → ReadsFitting files places both declarations before' after' (Ok plan) → DenotesPlan given plan
 plan_denoted files table anacrontab declarations given before after before' after' both places plan hold read placed rest =
     let tables = tables_denoted files table anacrontab declarations given before after both hold read in
-    let one = both_gave (ReadsEntries files declarations) (λ d. Gives (planned (fitting places both d))) before' after' plan rest in
+    let one = both_gave (ReadsEntries files declarations) (λ d. Makes (fitting places both d)) before' after' plan rest in
     let first = λ (ps : List Place). position (has_other_parts ps both.0.lines) one.value.cron in
-    let fit = is_fitting (joined both.0 both.1 one.value) (first places) plan one.two.1 in
+    let fit = is_fitting (joined both.0 both.1 one.value) (first places) before' after' plan one.two in
     let listed = subst (λ (o : Option (List ℕ)). IfSome o (λ bytes. places ≡ places_of bytes both.0)) hold.crontab placed in
     record {
       crontab = both.0;

@@ -39,6 +39,25 @@ pub struct FirstFault<'a> {
     pub name: &'a str,
 }
 
+impl<'a> FirstFault<'a> {
+    /// That of a line of a table, by its number and column, each from 1: one of a setting may be
+    /// shown at what is wrong in it, of that length, others at their column alone.
+    pub fn of(
+        line: u32,
+        column: usize,
+        length: usize,
+        is_setting: bool,
+        name: &'a str,
+    ) -> FirstFault<'a> {
+        FirstFault {
+            line: u64::from(line),
+            from: column.saturating_sub(1),
+            more: if is_setting { length } else { 0 },
+            name,
+        }
+    }
+}
+
 /// What is told of a line behind each finding that is about it.
 #[derive(Drop)]
 pub struct Note {
@@ -112,7 +131,7 @@ impl Findings {
 
     /// The byte at which that line begins, or the last one where there are fewer; line 0 begins
     /// where the first does.
-    fn line_start(&self, line: u64) -> usize {
+    pub(crate) fn line_start(&self, line: u64) -> usize {
         let start = self.starts.get(line.saturating_sub(1) as usize);
         start.or(self.starts.last()).copied().unwrap_or(0)
     }

@@ -2,18 +2,26 @@
 //! of a JSON text stand.
 #![tactic(auto)]
 
-mod fault;
 mod findings;
+mod front;
+mod json_fault;
+mod line;
+mod line_fault;
 mod names;
 mod object;
 mod outline;
+mod places;
 mod render;
 mod span;
 
-pub use fault::no_json;
 pub use findings::{Done, Findings, FirstFault, MAX_TOLD, Note, Words};
+pub use front::TableKind;
+pub use json_fault::{declared_lines, no_json};
+pub use line::{is_word_line, word_after, word_from, words};
+pub use line_fault::{COMMAND, TableLine, find_mark, table_lines};
 pub use names::{meant, nearest, quoted, shown};
 pub use object::Object;
 pub use outline::{Part, parsed, parts, trimmed};
+pub use places::{notes_on, places_in};
 pub use render::File;
 pub use span::Span;

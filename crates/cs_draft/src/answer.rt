@@ -15,7 +15,7 @@ use cs_args::{DraftWords, WordFault};
 use cs_civil::Bytes;
 use cs_crontab::Line;
 use cs_decl::{Declarations, read_declarations};
-use cs_files::{Fault, Response, Status, Tables, all_bytes_at, find_tables};
+use cs_files::{Fault, Response, Status, Tables, all_bytes_at, declared_fault, find_tables};
 use cs_io::{Inputs, Output};
 use cs_plan::is_possible_max;
 use cs_retrace::{Given, MaxFault, read_maxes};
@@ -89,8 +89,10 @@ fn find_old<'a, I: Inputs>(
     match path {
         Some(path) => {
             let bytes = all_bytes_at(alloc, inputs, path)?;
-            let old = read_declarations(alloc, bytes.as_slice())?;
-            Ok(Some((old, bytes)))
+            match read_declarations(alloc, bytes.as_slice()) {
+                Ok(old) => Ok(Some((old, bytes))),
+                Err(error) => Err(declared_fault(alloc, path, bytes.as_slice(), true, error)),
+            }
         }
         None => Ok(None),
     }

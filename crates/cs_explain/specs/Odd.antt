@@ -6,12 +6,12 @@ use Rattle.std.specs.Str.{str_eq_ignore_ascii_case}
 -- these, in the order in which they are listed
 unfoldable pub odd_names : List (List ℕ)
 odd_names =
-    codes "EachMinute" ∷ codes "UnevenStep" ∷ codes "BothDays" ∷ codes "SummerTime" ∷
-    codes "PercentSign" ∷ codes "LongCommand" ∷ codes "Background" ∷ codes "CommandComment" ∷
-    codes "Unexpanded" ∷ codes "TimeZone" ∷ codes "ValueComment" ∷ codes "Backslash" ∷
-    codes "CarriageReturn" ∷ codes "SameLine" ∷ codes "NoNewline" ∷ codes "UnusedGroup" ∷
-    codes "OtherLock" ∷ codes "MixedLocks" ∷ codes "NoOwnLock" ∷ codes "RebootLock" ∷
-    codes "ShortMax" ∷ codes "NoWhen" ∷ []
+    codes "EachMinute" ∷ codes "UnevenStep" ∷ codes "BothDays" ∷ codes "SixthField" ∷
+    codes "SummerTime" ∷ codes "PercentSign" ∷ codes "LongCommand" ∷ codes "Background" ∷
+    codes "CommandComment" ∷ codes "Unexpanded" ∷ codes "TimeZone" ∷ codes "ValueComment" ∷
+    codes "Backslash" ∷ codes "CarriageReturn" ∷ codes "SameLine" ∷ codes "NoNewline" ∷
+    codes "UnusedGroup" ∷ codes "OtherLock" ∷ codes "MixedLocks" ∷ codes "NoOwnLock" ∷
+    codes "RebootLock" ∷ codes "ShortMax" ∷ codes "NoWhen" ∷ []
 
 -- the word is that name, but for the case of its letters
 abbrev pub is_alike : List ℕ → List ℕ → Bool

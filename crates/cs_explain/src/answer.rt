@@ -20,6 +20,7 @@ pub fn no_such_name(
         Some(near) => ("did you mean ", near, "?"),
         None => ("'cronsafe explain' lists all names", "", ""),
     };
+    let name = if name.is_empty() { "''" } else { name };
     let told = format!(in alloc; "cronsafe: unknown name {name}: {hint}{near}{end}\n")?;
     Ok(told.into_bytes())
 }

@@ -20,6 +20,7 @@ file, delete the byte.",
         short: "a line that begins as a setting isn't one",
         text: "A line that begins with a letter, _ or a quote is a setting, NAME=VALUE. Name
 and = are required, and only blanks may follow the quote that closes a value.
+Nor does export stand in front of the name.
 wrong:
   PATH /usr/local/bin:/usr/bin:/bin
 right:
@@ -29,7 +30,7 @@ right:
         name: "UnknownWord",
         short: "the word behind @ is none that a crontab knows",
         text: "The words are @yearly, @annually, @monthly, @weekly, @daily, @midnight, @hourly
-and @reboot, in lower case.
+and @reboot, in lower case. Write */5 * * * * for @every 5m of robfig/cron.
 wrong:
   @Daily /usr/bin/clean
 right:
@@ -50,8 +51,9 @@ right:
         short: "no number, name, comma or end of the field where one should be",
         text: "Often a field was left out, and the command's first word is read as the fifth. A
 field has no blanks, and names have three letters: jan to dec, sun to sat. Nor
-are 5#2 and 0~59 read, which other daemons know. Debian's cron reads them as 5
-and as 0.
+are forms of others read: H of Jenkins, ?, L, W and 5#2 of Quartz, and 0~59 of
+cronie. Debian's cron reads the last two as 5 and as 0. A byte order mark, which
+some editors put in front of a file, is no number either.
 wrong:
   30 23 * * /usr/bin/backup
 right:

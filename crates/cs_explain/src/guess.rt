@@ -4,7 +4,10 @@ use std::alloc::{AllocError, Global};
 use strsim::levenshtein;
 
 /// By how many edits a name may be off at most.
-const MOST_EDITS: usize = 3;
+const MOST_EDITS: usize = 2;
+
+/// And of how many of its bytes one may be off.
+const BYTES_OF_AN_EDIT: usize = 3;
 
 /// The length in bytes past which a name is near to none.
 const LONGEST_NAME: usize = 40;
@@ -32,10 +35,11 @@ fn guess_among(alloc: Global, sought: &str, kind: Kind, first: Guess) -> Result<
     Ok(guess)
 }
 
-/// The name of one of these kinds that at most 3 edits lead to from this one, each of which puts,
-/// takes or changes a letter: of several the one with the fewest, of those the first in the order of
-/// [`names`](crate::names). None where there is none, or the name is longer than 40 bytes. Capital
-/// and small letters are alike. The only error is want of memory.
+/// The name of one of these kinds that at most 2 edits lead to from this one, and no more than one
+/// for each 3 of its bytes. An edit puts, takes or changes a letter. Of several it is the one with
+/// the fewest, of those the first in the order of [`names`](crate::names). None where there is none,
+/// or the name is longer than 40 bytes. Capital and small letters are alike. The only error is want
+/// of memory.
 pub(crate) fn nearest(
     alloc: Global,
     name: &str,
@@ -46,7 +50,7 @@ pub(crate) fn nearest(
     }
     let sought = name.to_ascii_lowercase(alloc)?;
     let mut guess = Guess {
-        edits: MOST_EDITS + 1,
+        edits: MOST_EDITS.min(name.len() / BYTES_OF_AN_EDIT) + 1,
         name: None,
     };
     for kind in kinds {

@@ -54,6 +54,9 @@ const HEADINGS: [&str; 11] = [
     "Of what 'lint' calls odd:",
 ];
 
+/// The number of the first fault that only a system table has.
+const FIRST_OF_SYSTEM: usize = 13;
+
 impl Kind {
     /// The line above its names.
     pub(crate) fn heading(self) -> &'static str {
@@ -78,5 +81,23 @@ impl Kind {
             Kind::Unknown => unknown::MEANINGS.as_slice(),
             Kind::Odd => odd::MEANINGS.as_slice(),
         }
+    }
+
+    /// The one that messages print with that number. Those of longest times and hours on the command
+    /// line are those of declarations; reasons and what is odd have none.
+    pub(crate) fn numbered(self, number: usize) -> Option<&'static Meaning> {
+        let place = match self {
+            Kind::Unknown | Kind::Odd => None,
+            Kind::System => number.checked_sub(FIRST_OF_SYSTEM),
+            Kind::Call => match number {
+                1 => Some(0),
+                2 => Some(1),
+                6 => Some(2),
+                12 => Some(3),
+                _ => None,
+            },
+            _ => number.checked_sub(1),
+        };
+        self.meanings().get(place?)
     }
 }

@@ -2,7 +2,7 @@
 use crate::meaning::Meaning;
 
 /// By what they are about: schedules, commands, settings, lines, the table, declarations.
-pub(crate) static MEANINGS: [Meaning; 22] = [
+pub(crate) static MEANINGS: [Meaning; 23] = [
     Meaning {
         name: "EachMinute",
         short: "the minute is *, and the hour one number",
@@ -18,7 +18,8 @@ right:
         short: "a step doesn't divide its hour, day or month evenly",
         text: "The step */7 counts from minute 0 in each hour, so 56 is followed by 0 after 4
 minutes. Take a divisor of 60 for minutes, one of 24 for hours, and list days of
-the month. A range such as 0-59/7 says that the short gap is meant.
+the month. A range such as 0-59/7 says that the short gap is meant. A step past
+the hour, such as */90, is due at minute 0 alone: write 0.
 wrong:
   */7 * * * * /usr/bin/poll
 right:
@@ -35,11 +36,23 @@ right:
   0 12 13 * * [ "$(date +\%u)" = 5 ] && /usr/bin/report"#,
     },
     Meaning {
+        name: "SixthField",
+        short: "a command begins with what reads as a sixth field",
+        text: "Cron has five fields and runs the rest: * as a program is the first file of the
+home folder. Quartz, Spring and robfig/cron, with its option for seconds, have
+the seconds in front, and Quartz may have the year at the end. Drop these two;
+where there are none, drop the field that is too many.
+wrong:
+  0 15 3 * * * /usr/bin/backup
+right:
+  15 3 * * * /usr/bin/backup",
+    },
+    Meaning {
         name: "SummerTime",
         short: "a line is due in minutes that summer time skips or repeats",
         text: "'cronsafe lint --zone FILE' tells it. Debian's cron runs a line of skipped
 minutes right after them, beside what is due then, and one of repeated minutes
-the first time alone. A line with * in front of its minute goes by the clocks:
+only the first time. A line with * in front of its minute goes by the clocks:
 its runs are left out, or come both times. Move the line out of these hours, so
 from 30 2 * * * to 30 4 * * *, or see that nothing is lost by either.",
     },

@@ -17,9 +17,9 @@ fn push_heading(text: &mut String, kind: Kind) -> Result<(), AllocError> {
     text.push_str("\n")
 }
 
-/// Writes the line of a name and its short meaning behind the text.
-fn push_line(text: &mut String, meaning: &Meaning) -> Result<(), AllocError> {
-    text.push_str("  ")?;
+/// Adds a line of this front, a name and its short meaning to the text.
+fn push_line(text: &mut String, front: &str, meaning: &Meaning) -> Result<(), AllocError> {
+    text.push_str(front)?;
     text.push_str(meaning.name)?;
     text.push_str(": ")?;
     text.push_str(meaning.short)?;
@@ -40,21 +40,36 @@ fn meaning_of<'a>(meanings: &'a [Meaning], name: &str) -> Option<&'a Meaning>
 fn push_names(text: &mut String, kind: Kind) -> Result<(), AllocError> {
     push_heading(text, kind)?;
     for meaning in kind.meanings() {
-        push_line(text, meaning)?;
+        push_line(text, "  ", meaning)?;
     }
     Ok(())
 }
 
+/// The names that messages print with that number, each with its short meaning, under the line for
+/// its kind. Nothing where it's no number.
+fn names_numbered(alloc: Global, number: &str) -> Result<String, AllocError> {
+    let mut text = String::new(alloc);
+    let value = number.parse::<usize>().unwrap_or(0);
+    let front = format!(in alloc; "{value} ")?;
+    for kind in KINDS {
+        if let Some(meaning) = kind.numbered(value) {
+            push_heading(&mut text, kind)?;
+            push_line(&mut text, front.as_str(), meaning)?;
+        }
+    }
+    Ok(text)
+}
+
 /// What the name of a fault, a refusal or a reason of `unknown` means, in lines of at most 80
 /// columns: a paragraph for each kind of input or answer that has the name, with a wrong and a
-/// right example where there is one. None where nothing has it. Capital and small letters are
-/// alike. The only error is want of memory.
+/// right example where there is one. Of a number a line for each name that is printed with it. None
+/// where nothing has it. Capital and small letters are alike. The only error is want of memory.
 pub fn explain(alloc: Global, name: &str) -> Result<Option<String>, AllocError> {
-    let mut text = String::new(alloc);
+    let mut text = names_numbered(alloc, name)?;
     for kind in KINDS {
         if let Some(meaning) = meaning_of(kind.meanings(), name) {
             push_heading(&mut text, kind)?;
-            push_line(&mut text, meaning)?;
+            push_line(&mut text, "  ", meaning)?;
             text.push_str(meaning.text)?;
             text.push_str("\n")?;
         }

@@ -10,7 +10,10 @@ use Rattle.cs_table.specs.Table.{Found as FoundIn}
 use Rattle.cs_place.specs.Places.{places_of}
 use Rattle.cs_place.specs.declared.places.Place.{Place}
 use Rattle.cs_anacrontab.specs.Anacrontab.{Table as JobTable}
-use Rattle.cs_plan.specs.Answers.{Fault as DeclaredFault}
+use Rattle.cs_anacrontab.specs.declared.fault.JobFault.{JobFault}
+use Rattle.cs_plan.specs.Answers.{Fails, Fault as DeclaredFault}
+use Rattle.cs_plan.specs.declared.fault.DeclError.{DeclError}
+use Rattle.cs_plan.specs.declared.fault.DeclError.TheVariants.{At, OutOfMemory}
 use Rattle.cs_decl.specs.Meaning.{declared_by}
 use Rattle.cs_plan.specs.Plan.{Declared}
 use Rattle.cs_decl.specs.declared.entries.Entries.{Entries}
@@ -24,10 +27,9 @@ use Rattle.cs_claims.specs.declared.fault.CertFault.{CertFault}
 use Rattle.cs_claims.specs.declared.limits.TheConstants.{MAX_CERTIFICATE}
 use Rattle.cs_io.specs.Files.{Failed, IsFresh, IsReadOut, IsTooLong, IsUpTo, Reads}
 use Rattle.cs_io.specs.declared.inputs.TheConstants.{MOST_READS}
-use Rattle.cs_files.specs.Fitting.{fitting}
-use Rattle.cs_files.specs.Reads.{FittingIn, TextIn, AndThen, IsRead, IsUnreadWhole, MeansIt, MeansTable, PlacesIn, ReadsAs, ReadsPlan}
+use Rattle.cs_files.specs.Reads.{TextIn, AndThen, IsRead, IsUnreadWhole, MeansEntries, MeansIt, MeansJobTable, MeansTable, PlacesIn, ReadsAs, ReadsPlan}
 use Rattle.cs_files.specs.Response.{Ending, complaint}
-use Rattle.cs_files.specs.Trouble.{CameTo, IsHonest, IsHonestOf, IsUnread, TellsPath, Trouble, ends, trouble, trouble_status, trouble_text}
+use Rattle.cs_files.specs.Trouble.{CameTo, InDeclarations, IsFaultOf, IsHonest, IsHonestOf, IsUnread, TellsPath, Trouble, declared_trouble, ends, trouble, trouble_status, trouble_text}
 use Rattle.cs_files.specs.declared.fault.Fault.{Fault}
 
 -- what is there is the same
@@ -81,21 +83,18 @@ placed files path table text places (is, same) listed = by_file (files path) sam
     by_file None none = none
     by_file (Some bytes) e = subst (λ (b : List ℕ). places ≡ places_of b table) e listed
 
--- the bytes of declarations that were read are those of the file
-pub declared : (files left : List ℕ → Option (List ℕ)) (path : Text) (bytes : List ℕ) (places : List Place) (tables : Table × JobTable) (d : Entries) (plan : Declared) → IsFresh files left → IfSome (left path) (λ text. bytes ≡ text)
-    → declared_by bytes ≡ Ok d → fitting places tables d ≡ Ok plan → FittingIn files path places tables plan bytes
-declared files left path bytes places tables d plan fresh read is joins = ((d, is, joins), by_file (files path) (left path) (fresh path) read)
+-- declarations that make no plan
+pub plan_unmade : (made : Entries → Result Declared DeclaredFault) (files left : List ℕ → Option (List ℕ)) (path : Text) (bytes : List ℕ) (d : Entries) (error : DeclError) (fault : Fault) (before after : Failed)
+    → after ≡ before → IsFresh files left → IfSome (left path) (λ text. bytes ≡ text) → declared_by bytes ≡ Ok d → Fails error (made d) → IsFaultOf error fault
+    → IfSome (trouble fault) (λ t. ReadsPlan made files path before after (Err t))
+plan_unmade made files left path bytes d error fault before after works fresh read denotes = by_error error (trouble fault)
   where
-    by_file : (whole rest : Option (List ℕ)) → IfSome whole (λ text. rest ≡ Some text) → IfSome rest (λ text. bytes ≡ text) → IfSome whole (λ text. bytes ≡ text)
-    by_file None rest same_rest up = same_rest
-    by_file (Some text) rest same_rest up = subst (λ (o : Option (List ℕ)). IfSome o (λ t. bytes ≡ t)) same_rest up
-
--- declarations, and the plan that they make
-pub plan_read : (made : Entries → Result Declared DeclaredFault) (files left : List ℕ → Option (List ℕ)) (path : Text) (bytes : List ℕ) (d : Entries) (plan : Declared) (before after : Failed)
-    → after ≡ before → IsFresh files left → IfSome (left path) (λ text. bytes ≡ text) → declared_by bytes ≡ Ok d → made d ≡ Ok plan
-    → ReadsPlan made files path before after (Ok plan)
-plan_read made files left path bytes d plan before after works fresh read is joins =
-    inr (d, inl (refl, meant_whole (λ b r. declared_by b ≡ r) (Ok d) bytes (files path) (left path) (fresh path) read is), (works, rw joins refl))
+    by_error : (e : DeclError) (o : Option Trouble) → Fails e (made d) → IfSome o (λ t. (lines : List ℕ) × (declared_trouble e lines ≡ Some t)) → IfSome o (λ t. ReadsPlan made files path before after (Err t))
+    by_error e None fails h = h
+    by_error OutOfMemory (Some t) fails (lines, is) = absurd (cc)
+    by_error (At f place) (Some t) fails (lines, is) =
+        let told : t ≡ InDeclarations ((f, place), lines) = sym (some_is (InDeclarations ((f, place), lines)) t is) in
+        inr (d, inl (refl, meant_whole MeansEntries (Ok d) bytes (files path) (left path) (fresh path) read denotes), rw (fails, told) (works, (lines, refl)))
 
 -- declarations that could not be read, or not to their end
 pub plan_unread : (made : Entries → Result Declared DeclaredFault) (files left : List ℕ → Option (List ℕ)) (path : Text) (before after : Failed) (old new : Reads) (e : Fault)
@@ -125,12 +124,19 @@ came_read limit means told files left path bytes before after (Err e) same works
     by_trouble (Some t) (fault, is, stands) = inr (works, (fault, is, meant limit means (Err fault) bytes (same (Err fault)) (files path) (left path) (fresh path) read stands))
 
 -- crontabs that are too long have one fault, and are no anacrontabs
-pub same_table : (bytes : List ℕ) (m : Result Table (FoundIn LineFault × Bool)) (text : List ℕ) → IsUpTo MAX_TABLE text bytes → MeansTable bytes m → MeansTable text m
+pub same_table : (bytes : List ℕ) (m : Result Table ((FoundIn LineFault × Bool) × List ℕ)) (text : List ℕ) → IsUpTo MAX_TABLE text bytes → MeansTable bytes m → MeansTable text m
 same_table bytes m text (inl e) means = subst (λ (b : List ℕ). MeansTable b m) e means
 same_table bytes (Ok table) text (inr long) means = absurd (let l = long.0 in omega (arith, means.short, l))
-same_table bytes (Err (fault, true)) text (inr long) (first, (jobs, means, some)) = absurd (let l = long.0 in omega (arith, means.short, l))
-same_table bytes (Err (fault, false)) text (inr long) (inl (past, is), none) = (inl (long.1, is), λ jobs means. absurd (let l = long.1 in omega (arith, means.short, l)))
-same_table bytes (Err (fault, false)) text (inr long) (inr first, none) = absurd (let l = long.0 in omega (arith, first.short, l))
+same_table bytes (Err ((fault, true), lines)) text (inr long) (first, (jobs, means, some)) = absurd (let l = long.0 in omega (arith, means.short, l))
+same_table bytes (Err ((fault, false), lines)) text (inr long) (inl (past, is), none) = (inl (long.1, is), λ jobs means. absurd (let l = long.1 in omega (arith, means.short, l)))
+same_table bytes (Err ((fault, false), lines)) text (inr long) (inr first, none) = absurd (let l = long.0 in omega (arith, first.short, l))
+
+-- and so have anacrontabs
+pub same_jobs : (bytes : List ℕ) (m : Result JobTable (FoundIn JobFault × List ℕ)) (text : List ℕ) → IsUpTo MAX_TABLE text bytes → MeansJobTable bytes m → MeansJobTable text m
+same_jobs bytes m text (inl e) means = subst (λ (b : List ℕ). MeansJobTable b m) e means
+same_jobs bytes (Ok jobs) text (inr long) means = absurd (let l = long.0 in omega (arith, means.short, l))
+same_jobs bytes (Err (fault, lines)) text (inr long) (inl (past, is)) = inl (long.1, is)
+same_jobs bytes (Err (fault, lines)) text (inr long) (inr first) = absurd (let l = long.0 in omega (arith, first.short, l))
 
 -- scripts that are too long have one fault
 pub same_script : (d : Declared) (bytes : List ℕ) (m : Result Numbered ScriptFault) (text : List ℕ) → IsUpTo MAX_SCRIPT text bytes → MeansScript d bytes m → MeansScript d text m

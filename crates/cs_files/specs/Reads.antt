@@ -1,5 +1,5 @@
 -- What is read file after file, until a fault ends the call.
-use Rattle.std.specs.Prelude.{◌≡◌, ◌⊎◌, ℕ, not, ◌&&◌, ◌==◌, length, Bool, true, false, List, Option, Some, None, IfSome, Result}
+use Rattle.std.specs.Prelude.{◌≡◌, ◌⊎◌, ℕ, not, ◌&&◌, ◌==◌, length, Bool, true, false, List, [], Option, Some, None, IfSome, Result}
 use Rattle.std.specs.Prelude.{Ok, Err}
 use Rattle.std.specs.Char.{is_ascii_alphabetic}
 use Rattle.std.specs.List.{list_all, list_any}
@@ -11,6 +11,7 @@ use Rattle.cs_crontab.specs.declared.fault.LineFault.{LineFault}
 use Rattle.cs_crontab.specs.Faults.{IsCrontab, Means}
 use Rattle.cs_anacrontab.specs.Anacrontab.{JobLine, Table as JobTable, no_lines as no_jobs}
 use Rattle.cs_anacrontab.specs.Faults.{Means as MeansJobs}
+use Rattle.cs_anacrontab.specs.declared.fault.JobFault.{JobFault}
 use Rattle.cs_place.specs.Places.{places_of}
 use Rattle.cs_place.specs.declared.places.Place.{Place}
 use Rattle.cs_plan.specs.Answers.{Fault as DeclaredFault}
@@ -54,12 +55,6 @@ AndThen first next before after r =
     ((t : Trouble) × first before after (Err t) × (r ≡ Err t))
     ⊎ ((x : _) × first before before (Ok x) × next x before after r)
 
--- the anacrontab, if there is one
-abbrev pub ReadsJobs : (List ℕ → Option (List ℕ)) → Option Text → Failed → Failed
-    → Result JobTable Trouble → Type 0
-ReadsJobs files None = Gives (Ok no_jobs)
-ReadsJobs files (Some path) = ReadsAs files path MeansJobs InAnacrontab
-
 -- there are jobs, the identifier of each with a letter, as no day of a crontab's line has
 abbrev pub are_named : List JobLine → Bool
 are_named lines = not (length lines == 0)
@@ -73,9 +68,20 @@ HoldsJobs text false =
     (jobs : JobTable) → MeansJobs text (Ok jobs) → are_named jobs.lines ≡ false
 
 -- a text denotes a crontab; or it has a first fault, and may be that of an anacrontab
-abbrev pub MeansTable : List ℕ → Result Table (FoundIn LineFault × Bool) → Type 0
+abbrev pub MeansTable : List ℕ → Result Table ((FoundIn LineFault × Bool) × List ℕ) → Type 0
 MeansTable text (Ok table) = Means text (Ok table)
-MeansTable text (Err found) = Means text (Err found.0) × HoldsJobs text found.1
+MeansTable text (Err ((fault, are_jobs), lines)) = Means text (Err fault) × HoldsJobs text are_jobs
+
+-- a text denotes an anacrontab; or it has a first fault
+abbrev pub MeansJobTable : List ℕ → Result JobTable (FoundIn JobFault × List ℕ) → Type 0
+MeansJobTable text (Ok jobs) = MeansJobs text (Ok jobs)
+MeansJobTable text (Err (fault, lines)) = MeansJobs text (Err fault)
+
+-- the anacrontab, if there is one
+abbrev pub ReadsJobs : (List ℕ → Option (List ℕ)) → Option Text → Failed → Failed
+    → Result JobTable Trouble → Type 0
+ReadsJobs files None = Gives (Ok no_jobs)
+ReadsJobs files (Some path) = ReadsAs files path MeansJobTable InAnacrontab
 
 -- both tables
 abbrev pub ReadsTables : (List ℕ → Option (List ℕ)) → Text → Option Text → Failed → Failed
@@ -95,15 +101,26 @@ TextIn files path table text = IsCrontab text table × IfSome (files path) (λ b
 abbrev pub PlacesIn : (List ℕ → Option (List ℕ)) → Text → Table → List Place → Type 0
 PlacesIn files path table places = IfSome (files path) (λ bytes. places ≡ places_of bytes table)
 
--- a plan, or the fault of declarations for which there is none
+-- a plan, or the fault for which there is none
 abbrev pub planned : Result Declared DeclaredFault → Result Declared Trouble
-planned plan = result_map_both (λ p. p) InDeclarations plan
+planned plan = result_map_both (λ p. p) (λ fault. InDeclarations (fault, [])) plan
+
+-- nothing is read, and a plan is made, or it's told for which fault of declarations there is none
+abbrev pub Makes : Result Declared DeclaredFault → Failed → Failed → Result Declared Trouble → Type 0
+Makes (Ok plan) before after r = (after ≡ before) × (r ≡ Ok plan)
+Makes (Err fault) before after r =
+    (after ≡ before) × ((lines : List ℕ) × (r ≡ Err (InDeclarations (fault, lines))))
+
+-- a text denotes declarations; or they have a first fault
+abbrev pub MeansEntries : List ℕ → Result Entries (DeclaredFault × List ℕ) → Type 0
+MeansEntries text (Ok d) = declared_by text ≡ Ok d
+MeansEntries text (Err (fault, lines)) = declared_by text ≡ Err fault
 
 -- the declarations at a path: of any length, but of no more reads than a path may take
 abbrev pub ReadsEntries : (List ℕ → Option (List ℕ)) → Text → Failed → Failed
     → Result Entries Trouble → Type 0
 ReadsEntries files path before after r =
-    ReadsAs files path (λ bytes d. declared_by bytes ≡ d) InDeclarations before after r
+    ReadsAs files path MeansEntries InDeclarations before after r
     ⊎ ((after ≡ before) × IsTooLong path files
     × ((t : Trouble) × TellsPath path t × (r ≡ Err t)))
 
@@ -118,7 +135,7 @@ FittingIn files path places tables plan text =
 -- the plan that the declarations at a path make
 abbrev pub ReadsPlan : (Entries → Result Declared DeclaredFault) → (List ℕ → Option (List ℕ))
     → Text → Failed → Failed → Result Declared Trouble → Type 0
-ReadsPlan made files path = AndThen (ReadsEntries files path) (λ d. Gives (planned (made d)))
+ReadsPlan made files path = AndThen (ReadsEntries files path) (λ d. Makes (made d))
 
 -- the plan of both tables as the declarations at a path have it
 abbrev pub ReadsDeclared : (List ℕ → Option (List ℕ)) → Table × JobTable → Text → Failed → Failed

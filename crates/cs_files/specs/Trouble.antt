@@ -15,8 +15,6 @@ use Rattle.cs_plan.specs.Answers.{Fault as DeclaredFault}
 use Rattle.cs_plan.specs.Printed.{error_text}
 use Rattle.cs_plan.specs.declared.fault.DeclError.{DeclError}
 use Rattle.cs_plan.specs.declared.fault.DeclError.TheVariants as decl_error
-use Rattle.cs_plan.specs.declared.fault.Place.{Place}
-use Rattle.cs_plan.specs.declared.fault.Place.TheVariants.{Anacron, Cron, Group, Job, LeftOut, Line}
 use Rattle.cs_report.specs.Printed.{fault_text as script_fault_text}
 use Rattle.cs_report.specs.Script.{Fault as ScriptFault}
 use Rattle.cs_report.specs.declared.script_fault.ScriptError.{ScriptError}
@@ -38,14 +36,16 @@ use Rattle.cs_files.specs.declared.fault.Fault.TheVariants.{Crontab, Declaration
 use Rattle.cs_files.specs.declared.fault.Fault.TheVariants.{Gathered, NoZone, Script, Words}
 
 -- why a call ends: its words hold a fault, this path can't be read, what was read holds a fault, or
--- what is at this path is no time zone; of a crontab it is said too whether it reads as an anacrontab
+-- what is at this path is no time zone. Of a crontab it is said too whether it reads as an
+-- anacrontab. Of tables and declarations there are lines that show the place, and what is wrong there:
+-- `lint` prints them too.
 pub data Trouble : Type 0 where
   InWords : WordFault → Trouble
   Unread : Text → Reason → Trouble
-  InCrontab : Found LineFault × Bool → Trouble
-  InAnacrontab : Found JobFault → Trouble
+  InCrontab : (Found LineFault × Bool) × List ℕ → Trouble
+  InAnacrontab : Found JobFault × List ℕ → Trouble
   InGathered : Text → Found SystemFault → Trouble
-  InDeclarations : DeclaredFault → Trouble
+  InDeclarations : DeclaredFault × List ℕ → Trouble
   InScript : ScriptFault → Trouble
   InCertificate : CertFault → Trouble
   NoTimeZone : Text → Trouble
@@ -82,19 +82,6 @@ no_zone_line path = path ++ codes ": no time zone file"
 abbrev pub declared_line : DeclaredFault → List ℕ
 declared_line fault = codes "declarations: " ++ error_text (decl_error.At fault.0 fault.1)
 
-unfoldable pub lint_text : List ℕ
-lint_text = codes "\ncronsafe: cronsafe lint TABLE DECLS tells where"
-
--- behind it, unless it tells the line or the job of a table: what tells its line and column
-abbrev pub lint_hint : Option Place → List ℕ
-lint_hint (Some (Line number)) = []
-lint_hint (Some (Job identifier)) = []
-lint_hint (Some (Group i)) = lint_text
-lint_hint (Some (Cron i)) = lint_text
-lint_hint (Some (Anacron i)) = lint_text
-lint_hint (Some (LeftOut i)) = lint_text
-lint_hint None = lint_text
-
 -- `script line 3: 2 BadLine`
 abbrev pub script_line : ScriptFault → List ℕ
 script_line fault =
@@ -111,10 +98,10 @@ word_hint BadHours =
 abbrev pub trouble_text : Trouble → List ℕ
 trouble_text (InWords fault) = word_fault fault ++ word_hint fault
 trouble_text (Unread path reason) = codes "can't read " ++ (path ++ reason_text reason)
-trouble_text (InCrontab found) = crontab_line found.0 ++ jobs_hint found.1
-trouble_text (InAnacrontab fault) = anacrontab_line fault
+trouble_text (InCrontab ((fault, are_jobs), lines)) = crontab_line fault ++ (jobs_hint are_jobs ++ lines)
+trouble_text (InAnacrontab (fault, lines)) = anacrontab_line fault ++ lines
 trouble_text (InGathered path fault) = gathered_line path fault
-trouble_text (InDeclarations fault) = declared_line fault ++ lint_hint fault.1
+trouble_text (InDeclarations (fault, lines)) = declared_line fault ++ lines
 trouble_text (InScript fault) = script_line fault
 trouble_text (InCertificate fault) = certificate_line fault
 trouble_text (NoTimeZone path) = no_zone_line path
@@ -136,25 +123,30 @@ abbrev pub ends : List ℕ → Trouble → Ending
 ends warnings t =
     record { status = trouble_status t; out = []; err = warnings ++ complaint (trouble_text t) }
 
--- what a fault says, unless it is want of memory
-abbrev pub table_trouble : TableFault LineFault → Bool → Option Trouble
-table_trouble (table_fault.At line column size fault) are_jobs = Some
-    (InCrontab (record { line = line; column = column; size = size; fault = fault }, are_jobs))
-table_trouble table_fault.OutOfMemory are_jobs = None
+-- the lines that show a fault, if there are any
+abbrev pub lines_in : Option (List ℕ) → List ℕ
+lines_in None = []
+lines_in (Some lines) = lines
 
-abbrev pub jobs_trouble : TableFault JobFault → Option Trouble
-jobs_trouble (table_fault.At line column size fault) =
-    Some (InAnacrontab (record { line = line; column = column; size = size; fault = fault }))
-jobs_trouble table_fault.OutOfMemory = None
+-- what a fault says with such lines, unless it is want of memory
+abbrev pub table_trouble : TableFault LineFault → Bool → List ℕ → Option Trouble
+table_trouble (table_fault.At line column size fault) are_jobs lines = Some (InCrontab
+    ((record { line = line; column = column; size = size; fault = fault }, are_jobs), lines))
+table_trouble table_fault.OutOfMemory are_jobs lines = None
+
+abbrev pub jobs_trouble : TableFault JobFault → List ℕ → Option Trouble
+jobs_trouble (table_fault.At line column size fault) lines = Some
+    (InAnacrontab (record { line = line; column = column; size = size; fault = fault }, lines))
+jobs_trouble table_fault.OutOfMemory lines = None
 
 abbrev pub gathered_trouble : Text → TableFault SystemFault → Option Trouble
 gathered_trouble path (table_fault.At line column size fault) =
     Some (InGathered path (record { line = line; column = column; size = size; fault = fault }))
 gathered_trouble path table_fault.OutOfMemory = None
 
-abbrev pub declared_trouble : DeclError → Option Trouble
-declared_trouble (decl_error.At fault place) = Some (InDeclarations (fault, place))
-declared_trouble decl_error.OutOfMemory = None
+abbrev pub declared_trouble : DeclError → List ℕ → Option Trouble
+declared_trouble (decl_error.At fault place) lines = Some (InDeclarations ((fault, place), lines))
+declared_trouble decl_error.OutOfMemory lines = None
 
 abbrev pub script_trouble : ScriptError → Option Trouble
 script_trouble (script_error.At line fault) = Some (InScript (line, fault))
@@ -167,14 +159,19 @@ certificate_trouble cert_error.OutOfMemory = None
 abbrev pub trouble : Fault → Option Trouble
 trouble (Words fault) = Some (InWords fault)
 trouble (CannotRead path reason) = Some (Unread path.now reason)
-trouble (Crontab fault are_jobs) = table_trouble fault are_jobs
-trouble (Anacrontab fault) = jobs_trouble fault
+trouble (Crontab fault are_jobs lines) = table_trouble fault are_jobs (lines_in lines)
+trouble (Anacrontab fault lines) = jobs_trouble fault (lines_in lines)
 trouble (Gathered path fault) = gathered_trouble path.now fault
-trouble (Declarations fault) = declared_trouble fault
+trouble (Declarations fault lines) = declared_trouble fault (lines_in lines)
 trouble (Script fault) = script_trouble fault
 trouble (Certificate fault) = certificate_trouble fault
 trouble (NoZone path) = Some (NoTimeZone path.now)
 trouble OutOfMemory = None
+
+-- a fault of declarations is that one, whatever the lines show of it
+abbrev pub IsFaultOf : DeclError → Fault → Type 0
+IsFaultOf error fault = IfSome (trouble fault)
+    (λ t. (lines : List ℕ) × (declared_trouble error lines ≡ Some t))
 
 -- this is the text of what a fault says
 abbrev pub Says : Option Trouble → List ℕ → Type 0

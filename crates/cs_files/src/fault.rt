@@ -1,24 +1,24 @@
 //! Why a call ends before all of it was done, and what is answered of it.
-ghost use Rattle.std.specs.Prelude.{◌≡◌, ◌++◌, IfOk, IfSome, OnOk, Some, codes, decimal};
+ghost use Rattle.std.specs.Prelude.{◌≡◌, ◌++◌, IfOk, IfSome, None, OnOk, Some, codes, decimal};
 ghost use Rattle.std.specs.Prelude.{option_map};
 ghost use Rattle.cs_args.specs.Words.{word_fault};
 ghost use Rattle.cs_io.specs.Reasons.{reason_text};
 ghost use Rattle.cs_files.specs.Response.{status_of};
 ghost use Rattle.cs_files.specs.Trouble.{Says, certificate_trouble, declared_trouble, ends};
-ghost use Rattle.cs_files.specs.Trouble.{gathered_trouble, jobs_hint, lint_hint, lint_text, no_zone_line};
+ghost use Rattle.cs_files.specs.Trouble.{gathered_trouble, jobs_hint, lines_in, no_zone_line};
 ghost use Rattle.cs_files.specs.Trouble.{jobs_trouble, script_trouble, table_trouble, trouble};
 ghost use Rattle.cs_files.specs.Trouble.{trouble_status, word_hint};
-ghost use Rattle.cs_files.specs.declared.fault.Fault.TheVariants.{Anacrontab, Crontab, Declarations};
+ghost use Rattle.cs_files.specs.declared.fault.Fault.TheVariants.{Declarations};
 ghost use Rattle.cs_files.specs.declared.fault.Fault.TheVariants.{OutOfMemory, Words};
 
 use crate::response::{Response, Status};
 use cs_anacrontab::AnacronFault;
 use cs_args::WordFault;
-use cs_civil::push_number;
+use cs_civil::{Bytes, push_number};
 use cs_claims::CertError;
 use cs_crontab::TableFault as CrontabFault;
 use cs_io::Reason;
-use cs_plan::{DeclError, Place};
+use cs_plan::DeclError;
 use cs_report::ScriptError;
 use cs_system::SystemFault;
 use cs_table::TableFault;
@@ -31,14 +31,14 @@ pub enum Fault<'a> {
     Words(WordFault),
     /// This path can't be read, for this reason.
     CannotRead(&'a str, Reason),
-    /// The crontab holds a fault, and whether it reads as an anacrontab.
-    Crontab(CrontabFault, bool),
-    /// The anacrontab holds a fault.
-    Anacrontab(AnacronFault),
+    /// The crontab holds a fault, whether it reads as an anacrontab, and lines that show the fault.
+    Crontab(CrontabFault, bool, Option<Bytes>),
+    /// The anacrontab holds a fault, and lines that show it.
+    Anacrontab(AnacronFault, Option<Bytes>),
     /// The table at this path, one of those that are gathered, holds a fault.
     Gathered(&'a str, TableFault<SystemFault>),
-    /// The declarations, or the plan that they make of the tables, hold a fault.
-    Declarations(DeclError),
+    /// The declarations, or the plan that they make of the tables, hold a fault, and lines show it.
+    Declarations(DeclError, Option<Bytes>),
     /// The script holds a fault.
     Script(ScriptError),
     /// The text of the certificate holds a fault.
@@ -73,19 +73,11 @@ impl<'a> From<WordFault> for Fault<'a> {
     }
 }
 
-impl<'a> From<AnacronFault> for Fault<'a> {
-    ghost from_gives = { λ error fault. fault ≡ Anacrontab error };
-
-    fn from(error: AnacronFault) -> Fault<'a> {
-        Fault::Anacrontab(error)
-    }
-}
-
 impl<'a> From<DeclError> for Fault<'a> {
-    ghost from_gives = { λ error fault. fault ≡ Declarations error };
+    ghost from_gives = { λ error fault. fault ≡ Declarations error None };
 
     fn from(error: DeclError) -> Fault<'a> {
-        Fault::Declarations(error)
+        Fault::Declarations(error, None)
     }
 }
 
@@ -133,14 +125,31 @@ fn push_jobs_hint(text: &mut Vec<u8>, are_jobs: bool) -> Result<(), AllocError>
     )
 }
 
+/// Adds the lines that show a fault, if there are any.
+fn push_lines(text: &mut Vec<u8>, lines: &Option<Bytes>) -> Result<(), AllocError>
+    ensures { OnOk result (text.new.items ≡ text.old.items ++ lines_in lines.now) }
+{
+    match lines {
+        Some(lines) => text.extend_from_slice(lines.as_slice()),
+        None => Ok(()),
+    }
+}
+
 /// What is told of a fault of a crontab.
-fn crontab_text(alloc: Global, fault: CrontabFault, are_jobs: bool) -> Result<Vec<u8>, AllocError>
-    ensures { IfOk result (λ text. Says (table_trouble fault are_jobs) text.items) }
+fn crontab_text(
+    alloc: Global,
+    fault: CrontabFault,
+    are_jobs: bool,
+    lines: &Option<Bytes>,
+) -> Result<Vec<u8>, AllocError>
+    ensures { IfOk result
+        (λ text. Says (table_trouble fault are_jobs (lines_in lines.now)) text.items) }
 {
     match fault {
         CrontabFault::At { line, fault, .. } => {
             let mut text = line_text(alloc, b"crontab line ".as_slice(), line, fault.text())?;
             push_jobs_hint(&mut text, are_jobs)?;
+            push_lines(&mut text, lines)?;
             Ok(text)
         }
         CrontabFault::OutOfMemory => Err(AllocError),
@@ -148,12 +157,18 @@ fn crontab_text(alloc: Global, fault: CrontabFault, are_jobs: bool) -> Result<Ve
 }
 
 /// What is told of a fault of an anacrontab.
-fn anacrontab_text(alloc: Global, fault: AnacronFault) -> Result<Vec<u8>, AllocError>
-    ensures { IfOk result (λ text. Says (jobs_trouble fault) text.items) }
+fn anacrontab_text(
+    alloc: Global,
+    fault: AnacronFault,
+    lines: &Option<Bytes>,
+) -> Result<Vec<u8>, AllocError>
+    ensures { IfOk result (λ text. Says (jobs_trouble fault (lines_in lines.now)) text.items) }
 {
     match fault {
         AnacronFault::At { line, fault, .. } => {
-            line_text(alloc, b"anacrontab line ".as_slice(), line, fault.text())
+            let mut text = line_text(alloc, b"anacrontab line ".as_slice(), line, fault.text())?;
+            push_lines(&mut text, lines)?;
+            Ok(text)
         }
         AnacronFault::OutOfMemory => Err(AllocError),
     }
@@ -207,35 +222,20 @@ fn no_zone_text(alloc: Global, path: &str) -> Result<Vec<u8>, AllocError>
     named_text(alloc, path.as_bytes(), b": no time zone file".as_slice())
 }
 
-/// Adds which call tells the line and the column.
-#[tactic(auto, unfolding(crate::specs::Trouble::lint_text))]
-fn push_lint_text(text: &mut Vec<u8>) -> Result<(), AllocError>
-    ensures { OnOk result (text.new.items ≡ text.old.items ++ lint_text) }
-{
-    text.extend_from_slice(b"\ncronsafe: cronsafe lint TABLE DECLS tells where")
-}
-
-/// Adds which call tells where a fault is, unless its place is a line or a job of a table.
-fn push_lint_hint(text: &mut Vec<u8>, place: &Option<Place>) -> Result<(), AllocError>
-    ensures { OnOk result (text.new.items ≡ text.old.items ++ lint_hint place.now) }
-{
-    match place {
-        Some(Place::Line(_) | Place::Job(_)) => Ok(()),
-        Some(Place::Group(_) | Place::Cron(_) | Place::Anacron(_) | Place::LeftOut(_)) | None => {
-            push_lint_text(text)
-        }
-    }
-}
-
 /// What is told of a fault of declarations or of a plan.
-fn declared_text(alloc: Global, fault: &DeclError) -> Result<Vec<u8>, AllocError>
-    ensures { IfOk result (λ text. Says (declared_trouble fault.now) text.items) }
+fn declared_text(
+    alloc: Global,
+    fault: &DeclError,
+    lines: &Option<Bytes>,
+) -> Result<Vec<u8>, AllocError>
+    ensures { IfOk result
+        (λ text. Says (declared_trouble fault.now (lines_in lines.now)) text.items) }
 {
     match fault {
-        DeclError::At { place, .. } => {
+        DeclError::At { .. } => {
             let line = fault.text(alloc)?;
             let mut text = named_text(alloc, b"declarations: ".as_slice(), line.as_slice())?;
-            push_lint_hint(&mut text, place)?;
+            push_lines(&mut text, lines)?;
             Ok(text)
         }
         DeclError::OutOfMemory => Err(AllocError),
@@ -271,10 +271,12 @@ impl Fault<'_> {
         match self {
             Fault::Words(fault) => word_text(alloc, *fault),
             Fault::CannotRead(path, reason) => unread_text(alloc, path, *reason),
-            Fault::Crontab(fault, are_jobs) => crontab_text(alloc, *fault, *are_jobs),
-            Fault::Anacrontab(fault) => anacrontab_text(alloc, *fault),
+            Fault::Crontab(fault, are_jobs, lines) => {
+                crontab_text(alloc, *fault, *are_jobs, lines)
+            }
+            Fault::Anacrontab(fault, lines) => anacrontab_text(alloc, *fault, lines),
             Fault::Gathered(path, fault) => gathered_text(alloc, path, *fault),
-            Fault::Declarations(fault) => declared_text(alloc, fault),
+            Fault::Declarations(fault, lines) => declared_text(alloc, fault, lines),
             Fault::Script(fault) => script_text(alloc, *fault),
             Fault::Certificate(fault) => certificate_text(alloc, *fault),
             Fault::NoZone(path) => no_zone_text(alloc, path),
@@ -290,10 +292,10 @@ impl Fault<'_> {
             Fault::CannotRead(_, _) => Status::DeviceFailed,
             Fault::OutOfMemory => Status::NoMemory,
             Fault::Words(_) => Status::BadInput,
-            Fault::Crontab(_, _) => Status::BadInput,
-            Fault::Anacrontab(_) => Status::BadInput,
+            Fault::Crontab(_, _, _) => Status::BadInput,
+            Fault::Anacrontab(_, _) => Status::BadInput,
             Fault::Gathered(_, _) => Status::BadInput,
-            Fault::Declarations(_) => Status::BadInput,
+            Fault::Declarations(_, _) => Status::BadInput,
             Fault::Script(_) => Status::BadInput,
             Fault::Certificate(_) => Status::BadInput,
             Fault::NoZone(_) => Status::BadInput,

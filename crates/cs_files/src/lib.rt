@@ -7,6 +7,7 @@ mod fault;
 mod parts;
 mod reads;
 mod response;
+mod shown;
 mod words;
 
 pub use asked::{Planned, Tables, find_plan, find_tables};
@@ -14,4 +15,5 @@ pub use ending::{finish, run_out, tell};
 pub use fault::Fault;
 pub use reads::{all_bytes_at, are_jobs, bytes_at, declared_plan_from};
 pub use response::{Response, Status};
+pub use shown::declared_fault;
 pub use words::words_of;

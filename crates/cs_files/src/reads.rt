@@ -3,11 +3,10 @@ ghost use Rattle.std.specs.Prelude.{◌≡◌, ◌≤◌, IfErr, IfOk, IfSome, O
 ghost use Rattle.std.specs.List.{list_all, list_any};
 ghost use Rattle.std.specs.Char.{is_ascii_alphabetic};
 ghost use Rattle.cs_table.specs.declared.limits.TheConstants.{MAX_TABLE};
-ghost use Rattle.cs_anacrontab.specs.Faults.{Means as MeansJobs};
 ghost use Rattle.cs_crontab.specs.Faults.{IsCrontab};
 ghost use Rattle.cs_io.specs.Files.{AreReadInTurn, IsFresh, IsReadAlone};
 ghost use Rattle.cs_files.specs.Reads.{HoldsJobs, IsRead, IsUnreadAt, IsUnreadWhole, MeansIt};
-ghost use Rattle.cs_files.specs.Reads.{FittingIn, MeansTable, ReadsAs, TextIn, are_named};
+ghost use Rattle.cs_files.specs.Reads.{FittingIn, MeansJobTable, MeansTable, ReadsAs, TextIn, are_named};
 ghost use Rattle.cs_files.specs.Reads.{ReadsDeclared, ReadsFitting, ReadsJobs, ReadsTables};
 ghost use Rattle.cs_files.specs.Reads.{without_rest};
 ghost use Rattle.cs_files.specs.Turn.{some_path, table_paths};
@@ -16,6 +15,7 @@ ghost use Rattle.cs_files.specs.Trouble.{IsOfContent};
 
 use crate::fault::Fault;
 use crate::parts::join_placed;
+use crate::shown::{anacrontab_lines, crontab_lines, declared_fault};
 use cs_anacrontab::{AnacronFault, Anacrontab, Job, read_anacrontab};
 use cs_crontab::{Crontab, read_crontab};
 use cs_decl::{join, read_declarations};
@@ -103,14 +103,22 @@ pub fn are_jobs(alloc: Global, bytes: &[u8]) -> Result<bool, AllocError>
     }
 }
 
-/// The crontab that the bytes denote.
-fn table_in<'a>(alloc: Global, bytes: &[u8]) -> Result<Crontab, Fault<'a>>
+/// The crontab that the bytes at a path denote.
+fn table_in<'a>(alloc: Global, path: &str, bytes: &[u8]) -> Result<Crontab, Fault<'a>>
     ensures value { MeansIt MeansTable InCrontab bytes.now result }
     ensures status { IfErr result IsOfContent }
 {
     match read_crontab(alloc, bytes) {
         Ok(table) => Ok(table),
-        Err(fault) => Err(Fault::Crontab(fault, are_jobs(alloc, bytes)?)),
+        Err(fault) => {
+            let are_jobs = are_jobs(alloc, bytes)?;
+            let lines = if are_jobs {
+                None
+            } else {
+                crontab_lines(alloc, path, bytes, fault)?
+            };
+            Err(Fault::Crontab(fault, are_jobs, lines))
+        }
     }
 }
 
@@ -134,8 +142,22 @@ fn table_from<'a, I: Inputs>(
     ensures alone { IsReadAlone path.now (I.reads inputs.old) (I.reads inputs.new) }
 {
     let text = bytes_at(alloc, inputs, path, MAX_TABLE as u32)?;
-    let table = table_in(alloc, text.as_slice())?;
+    let table = table_in(alloc, path, text.as_slice())?;
     Ok((table, text))
+}
+
+/// The anacrontab that the bytes at a path denote.
+fn jobs_in<'a>(alloc: Global, path: &str, bytes: &[u8]) -> Result<Anacrontab, Fault<'a>>
+    ensures value { MeansIt MeansJobTable InAnacrontab bytes.now result }
+    ensures status { IfErr result IsOfContent }
+{
+    match read_anacrontab(alloc, bytes) {
+        Ok(jobs) => Ok(jobs),
+        Err(fault) => {
+            let lines = anacrontab_lines(alloc, path, bytes, fault)?;
+            Err(Fault::Anacrontab(fault, lines))
+        }
+    }
 }
 
 /// The anacrontab at a path.
@@ -145,7 +167,7 @@ fn jobs_from<'a, I: Inputs>(
     path: &'a str,
 ) -> Result<Anacrontab, Fault<'a>>
     ensures step { IsFresh (I.whole inputs.old) (I.left inputs.old)
-        → CameTo (ReadsAs (I.whole inputs.old) path.now MeansJobs InAnacrontab
+        → CameTo (ReadsAs (I.whole inputs.old) path.now MeansJobTable InAnacrontab
         (I.failed inputs.old) (I.failed inputs.new)) result }
     ensures works { OnOk result (I.failed inputs.new ≡ I.failed inputs.old) }
     ensures whole { I.whole inputs.new ≡ I.whole inputs.old }
@@ -155,7 +177,7 @@ fn jobs_from<'a, I: Inputs>(
     ensures alone { IsReadAlone path.now (I.reads inputs.old) (I.reads inputs.new) }
 {
     let bytes = bytes_at(alloc, inputs, path, MAX_TABLE as u32)?;
-    Ok(read_anacrontab(alloc, bytes.as_slice())?)
+    jobs_in(alloc, path, bytes.as_slice())
 }
 
 /// The anacrontab, if there is one.
@@ -228,8 +250,17 @@ pub fn declared_plan_from<'a, I: Inputs>(
     ensures alone { IsReadAlone path.now (I.reads inputs.old) (I.reads inputs.new) }
 {
     let bytes = all_bytes_at(alloc, inputs, path)?;
-    let declarations = read_declarations(alloc, bytes.as_slice())?;
-    Ok(join(alloc, table, jobs, declarations)?)
+    let has_jobs = !jobs.lines().is_empty();
+    let declarations = match read_declarations(alloc, bytes.as_slice()) {
+        Ok(declarations) => declarations,
+        Err(error) => {
+            return Err(declared_fault(alloc, path, bytes.as_slice(), has_jobs, error));
+        }
+    };
+    match join(alloc, table, jobs, declarations) {
+        Ok(plan) => Ok(plan),
+        Err(error) => Err(declared_fault(alloc, path, bytes.as_slice(), has_jobs, error)),
+    }
 }
 
 /// The same where the crontab has these places: an entry may also have other parts than they tell.
@@ -256,7 +287,15 @@ pub fn placed_plan_and_text<'a, I: Inputs>(
     ensures alone { IsReadAlone path.now (I.reads inputs.old) (I.reads inputs.new) }
 {
     let bytes = all_bytes_at(alloc, inputs, path)?;
-    let declarations = read_declarations(alloc, bytes.as_slice())?;
-    let plan = join_placed(alloc, table, jobs, places, declarations)?;
-    Ok((plan, bytes))
+    let has_jobs = !jobs.lines().is_empty();
+    let declarations = match read_declarations(alloc, bytes.as_slice()) {
+        Ok(declarations) => declarations,
+        Err(error) => {
+            return Err(declared_fault(alloc, path, bytes.as_slice(), has_jobs, error));
+        }
+    };
+    match join_placed(alloc, table, jobs, places, declarations) {
+        Ok(plan) => Ok((plan, bytes)),
+        Err(error) => Err(declared_fault(alloc, path, bytes.as_slice(), has_jobs, error)),
+    }
 }

@@ -1,7 +1,7 @@
 -- What is answered to `lint`.
-use Rattle.std.specs.Prelude.{◌≡◌, ◌≢◌, ◌≤◌, ◌<◌, ◌⊎◌, ◌++◌, ℕ, false, true, List, [], Option, Some, None, IfSome}
-use Rattle.std.specs.Prelude.{Contains, IsErr, is_none, length}
-use Rattle.std.specs.List.{list_any}
+use Rattle.std.specs.Prelude.{◌≡◌, ◌≢◌, ◌≤◌, ◌<◌, ◌⊎◌, ◌==◌, ◌++◌, ℕ, false, true, List, [], Option, Some, None, IfSome}
+use Rattle.std.specs.Prelude.{Contains, IsErr, is_none, is_some, length}
+use Rattle.std.specs.List.{find, list_any, slice_split}
 use Rattle.clap.specs.Words.{Text}
 use Rattle.jiff_tz.specs.Tzif.{HasBadRule}
 use Rattle.jiff_tz.specs.TzifReader.{read_tzif}
@@ -50,13 +50,18 @@ abbrev pub IsNoZone : List ℕ → Type 0
 IsNoZone text =
     (MAX_TABLE < length text) ⊎ (IsErr (read_tzif text) ⊎ HasBadRule (read_tzif text))
 
--- each of the words is an odd name but for the case of letters
-abbrev pub AreNamed : List Text → Type 0
-AreNamed words = list_any (λ word. is_none (odd_named word)) words ≡ false
+-- the first of the names in a word, which stand between commas, that is no odd name, whatever the
+-- case of its letters
+abbrev pub no_name_in : Text → Option Text
+no_name_in word = find (λ name. is_none (odd_named name)) (slice_split (λ b. b == 44) word)
 
--- it is one of the words, and no odd name
+-- no word has one
+abbrev pub AreNamed : List Text → Type 0
+AreNamed words = list_any (λ word. is_some (no_name_in word)) words ≡ false
+
+-- one of the words has this one
 abbrev pub IsNoName : List Text → Text → Type 0
-IsNoName words word = Contains words word × (odd_named word ≡ None)
+IsNoName words name = (word : Text) × Contains words word × (no_name_in word ≡ Some name)
 
 -- it is told that the file of a time zone is none
 abbrev pub TellsZone : Option Text → Trouble → Type 0
@@ -82,12 +87,12 @@ LintsFiles a files before after ending =
     × (a.faults_only ≡ true → ending.status ≢ 1))
     ⊎ ((t : Trouble) × IsUnreadable a files before after t × (ending ≡ ends [] t))
 
--- what is answered to `lint`: that a word is no odd name, at status 4 and before a file is read;
+-- what is answered to `lint`: that a name is no odd name, at status 4 and before a file is read;
 -- else what is answered of all files
 abbrev pub AnswersLint : AskedLint → (List ℕ → Option (List ℕ)) → Failed → Failed → Ending
     → Type 0
 AnswersLint a files before after ending =
-    ((word : Text) × IsNoName (a.only ++ a.except) word × (after ≡ before) × (ending.status ≡ 4)
+    ((name : Text) × IsNoName (a.only ++ a.except) name × (after ≡ before) × (ending.status ≡ 4)
     × (ending.out ≡ []))
     ⊎ (AreNamed a.only × AreNamed a.except × LintsFiles a files before after ending)
 

@@ -7,10 +7,11 @@ ghost use Rattle.cs_lint.specs.Refused.{Finds, Judges};
 ghost use Rattle.cs_files.specs.Response.{status_of};
 ghost use Rattle.cs_files.specs.Trouble.{IsHonest, IsHonestOf, trouble};
 ghost use Rattle.cs_files.specs.Turn.{lint_paths, some_path, table_paths};
+ghost use Rattle.cs_explain.specs.Odd.{odd_named};
 ghost use Rattle.cs_lint.specs.Answer.{AnswersLint, AreHeld, AreHeldTables, AreNamed};
 ghost use Rattle.cs_lint.specs.Answer.{IfKnown, IsLinted, IsNoName, IsShort, IsSomeUpTo};
 ghost use Rattle.cs_lint.specs.Answer.{IsTrueOf, IsUnreadFile, IsUnreadZone, IsUnreadable};
-ghost use Rattle.cs_lint.specs.Answer.{LintsFiles};
+ghost use Rattle.cs_lint.specs.Answer.{LintsFiles, no_name_in};
 
 use crate::changes::{Change, changes_in};
 use crate::files::{Texts, told_of};
@@ -198,15 +199,29 @@ fn show(alloc: Global, request: &LintWords<'_>, texts: &Texts) -> Result<Respons
     Ok(Response::told(status, text, Bytes::new(alloc)))
 }
 
-/// The first of the words that names nothing odd.
+/// Whether nothing odd has that name.
+fn is_unknown(name: &str) -> bool
+    ensures { result ≡ is_none (odd_named name.now) }
+{
+    odd_name(name).is_none()
+}
+
+/// The first of the names in a word, which stand between commas, that nothing odd has.
+fn unknown_name_in(word: &str) -> Option<&str>
+    ensures { option_map (λ name. name.now) result ≡ no_name_in word.now }
+{
+    word.split(',').find(|name| is_unknown(name))
+}
+
+/// The first of the names in these words that nothing odd has.
 fn unknown_in<'w>(words: &[&'w str]) -> Option<&'w str>
     ensures some { IfSome result
-        (λ word. IsNoName (map (λ word. word.now) words.now) word.now) }
+        (λ name. IsNoName (map (λ word. word.now) words.now) name.now) }
     ensures none { is_none result ≡ true → AreNamed (map (λ word. word.now) words.now) }
 {
     for word in words {
-        if odd_name(*word).is_none() {
-            return Some(*word);
+        if let Some(name) = unknown_name_in(*word) {
+            return Some(name);
         }
     }
     None
@@ -255,11 +270,11 @@ pub fn answer_lint<I: Inputs>(
     ensures turn { AreReadInTurn (lint_paths (asked_lint request.now))
         (I.reads inputs.old) (I.reads inputs.new) }
 {
-    if let Some(word) = unknown_in(request.only.as_slice()) {
-        return Ok(unknown_name(alloc, word)?);
+    if let Some(name) = unknown_in(request.only.as_slice()) {
+        return Ok(unknown_name(alloc, name)?);
     }
-    if let Some(word) = unknown_in(request.except.as_slice()) {
-        return Ok(unknown_name(alloc, word)?);
+    if let Some(name) = unknown_in(request.except.as_slice()) {
+        return Ok(unknown_name(alloc, name)?);
     }
     lint_files(alloc, request, now, inputs)
 }

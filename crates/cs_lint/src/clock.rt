@@ -39,7 +39,7 @@ impl Change {
                 ": cron runs this right after, beside what is due then",
             ),
             (false, true) => ("show", " twice: cron runs this both times"),
-            (false, false) => ("show", " twice: cron runs this the first time alone"),
+            (false, false) => ("show", " twice: cron runs it only the first time"),
         };
         format!(in alloc; "on {on} the clocks {show} {from} to {to}{run}")
     }

@@ -2,13 +2,12 @@
 use crate::answer::some_bytes;
 use crate::changes::Change;
 use crate::declared::Declared;
-use crate::places::{notes_on, places_in};
 use crate::planned::held_in;
 use crate::refusal::{Looked, Refusal};
-use crate::table::{Beside, Kind, Table};
+use crate::table::{Beside, Table};
 use crate::wanted::Wanted;
 use cs_args::LintWords;
-use cs_diagnostics::{Done, File, Findings, parsed};
+use cs_diagnostics::{Done, File, Findings, TableKind, notes_on, parsed, places_in};
 use cs_files::are_jobs;
 use cs_place::Place;
 use std::alloc::{AllocError, Global};
@@ -65,8 +64,20 @@ impl Found {
             changes: &[],
         };
         let (bytes, has_jobs) = (some_bytes(&texts.jobs), texts.jobs.is_some());
-        let mut table = Table::at(alloc, texts.table.as_slice(), Kind::Crontab, wanted, beside)?;
-        let mut jobs = Table::at(alloc, bytes.unwrap_or(&[]), Kind::Anacrontab, wanted, none)?;
+        let mut table = Table::at(
+            alloc,
+            texts.table.as_slice(),
+            TableKind::Crontab,
+            wanted,
+            beside,
+        )?;
+        let mut jobs = Table::at(
+            alloc,
+            bytes.unwrap_or(&[]),
+            TableKind::Anacrontab,
+            wanted,
+            none,
+        )?;
         let declared = match &texts.declarations {
             Some(bytes) => {
                 let bytes = bytes.as_slice();
@@ -92,9 +103,9 @@ impl Found {
         }
     }
 
-    /// What is told of it: file after file, with notes on the lines of the crontab that stand at
-    /// those places; then that the crontab reads as an anacrontab, if it does; then where clocks
-    /// change.
+    /// What is said of it: file after file, with notes on the lines of the crontab that stand at
+    /// those places; then where clocks change. Of a crontab that reads as an anacrontab this is said
+    /// first, and this alone where the crontab's reader refuses it.
     fn text(
         &self,
         alloc: Global,
@@ -102,6 +113,7 @@ impl Found {
         texts: &Texts,
         places: &[Place],
         are_jobs: bool,
+        is_refused: bool,
     ) -> Result<Vec<u8>, AllocError> {
         let table = File {
             path: request.table,
@@ -117,16 +129,22 @@ impl Found {
         };
         let notes = notes_on(alloc, places)?;
         let mut text = Vec::new(alloc);
-        self.table.tell(&table, notes.as_slice(), &mut text)?;
+        let is_alone = are_jobs && is_refused;
+        if are_jobs {
+            let kind = if is_refused { "fault" } else { "odd" };
+            let why = "the table reads as an anacrontab: give it with --anacrontab";
+            let line = format!(in alloc; "{}:1:1: {kind}: {why}\n", table.path)?;
+            text.extend_from_slice(line.as_bytes())?;
+        }
+        if !is_alone {
+            self.table.tell(&table, notes.as_slice(), &mut text)?;
+        }
         self.jobs.tell(&jobs, &[], &mut text)?;
         self.declared
             .tell(&declarations, notes.as_slice(), &mut text)?;
-        if are_jobs {
-            let why = "the table reads as an anacrontab: give it with --anacrontab";
-            let hint = format!(in alloc; "{}:1:1: odd: {why}\n", table.path)?;
-            text.extend_from_slice(hint.as_bytes())?;
+        if !is_alone {
+            self.clock.tell(&table, notes.as_slice(), &mut text)?;
         }
-        self.clock.tell(&table, notes.as_slice(), &mut text)?;
         Ok(text)
     }
 }
@@ -167,8 +185,17 @@ pub(crate) fn told_of(
     if let Err(refusal) = &looked.plan {
         found.keep(refusal)?;
     }
-    let are_jobs = wanted.tells("") && are_jobs(alloc, texts.table.as_slice())?;
-    let text = found.text(alloc, request, texts, places.as_slice(), are_jobs)?;
+    let is_refused = matches!(looked.plan, Err(Refusal::Table(_)));
+    let is_told = is_refused || wanted.tells("");
+    let are_jobs = is_told && are_jobs(alloc, texts.table.as_slice())?;
+    let text = found.text(
+        alloc,
+        request,
+        texts,
+        places.as_slice(),
+        are_jobs,
+        is_refused,
+    )?;
     let is_odd = found.table.has_oddities || found.clock.has_oddities || found.jobs.has_oddities;
     Ok((text, is_odd || found.declared.has_oddities || are_jobs))
 }

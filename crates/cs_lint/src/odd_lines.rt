@@ -1,7 +1,6 @@
 //! What is odd in a line of a crontab, by itself: it can be read, but is seldom meant.
-use crate::line::{is_word_line, word_behind, words};
-use cs_diagnostics::Span;
-use cs_table::text::{digits, is_blank, trim_end};
+use cs_diagnostics::{Span, is_word_line, word_after, words};
+use cs_table::text::{digits, is_among, is_blank, trim_end};
 
 /// The most bytes that a command has in Debian's cron.
 const MAX_COMMAND: usize = 998;
@@ -10,22 +9,68 @@ const MAX_COMMAND: usize = 998;
 /// it, and why it's odd, with what to change.
 pub(crate) type Oddity = (bool, Span, &'static str, &'static str);
 
-/// The text of a field, counted from 0: nothing where a word such as `@daily` stands in place of
-/// the fields.
-fn field(line: &[u8], number: usize) -> &[u8] {
-    if is_word_line(line) {
-        return &[];
-    }
-    word_behind(line, number).bytes(line)
-}
+/// Why a step of minutes is odd: within the hour, and past it.
+const HOUR_STEP: [&str; 2] = [
+    "the step begins anew each hour, after a shorter gap: take a divisor of 60",
+    "this step is past the hour, so the line is due at minute 0 alone: write `0`",
+];
 
-/// Whether a field is `*/N`, and what it goes round isn't a multiple of N.
-fn is_uneven(field: &[u8], round: u32) -> bool {
-    if !field.starts_with(b"*/".as_slice()) {
+/// The same of hours.
+const DAY_STEP: [&str; 2] = [
+    "the step begins anew each day, after a shorter gap: take a divisor of 24",
+    "this step is past the day, so the line is due in hour 0 alone: write `0`",
+];
+
+/// The same of days, which a step past the month leaves their first one.
+const MONTH_STEP: [&str; 2] =
+    ["the step begins anew each month, after another gap: list the days"; 2];
+
+/// Weekdays as tables of six fields have them.
+const DAYS: [&[u8]; 7] = [b"SUN", b"MON", b"TUE", b"WED", b"THU", b"FRI", b"SAT"];
+
+/// Whether the command behind five fields begins with what reads as a sixth one: `?`, a weekday in
+/// capitals, or numbers, beginning with a digit or `*`.
+fn has_sixth(line: &[u8]) -> bool {
+    let word = word_after(line, 5).bytes(line);
+    let first = word.first().copied().unwrap_or(b'-');
+    let behind = word.get(3).copied().unwrap_or(b',');
+    if is_word_line(line) || b"/,-".contains(&first) {
         return false;
     }
-    let (step, rest) = digits(&field[2..]);
-    rest.is_empty() && step != 0 && round % step != 0
+    if is_among(DAYS.as_slice(), Span::of(0, 3).bytes(word)) {
+        return b"-,#".contains(&behind);
+    }
+    for byte in word {
+        if !b"0123456789*/,-".contains(byte) {
+            return first == b'?' && word.len() == 1;
+        }
+    }
+    true
+}
+
+/// The text of a field, counted from 0: nothing where a word such as `@daily` stands in place of
+/// the fields, or a sixth one follows.
+fn field(line: &[u8], number: usize) -> &[u8] {
+    if is_word_line(line) || has_sixth(line) {
+        return &[];
+    }
+    word_after(line, number).bytes(line)
+}
+
+/// That a field is `*/N`, and what it goes round isn't a multiple of N; with why that is odd where N
+/// is less, and where it's more.
+fn uneven(line: &[u8], number: usize, round: u32, texts: [&'static str; 2]) -> Oddity {
+    let [less, more] = texts;
+    let field = field(line, number);
+    let (step, rest) = digits(Span::between(2, field.len()).bytes(field));
+    let is_step = field.starts_with(b"*/".as_slice()) && rest.is_empty();
+    let last_gap = round.checked_rem(step).unwrap_or(0);
+    (
+        is_step && last_gap != 0,
+        words(line, number, number),
+        "UnevenStep",
+        if step > round { more } else { less },
+    )
 }
 
 /// The byte at which the first `%` stands that no backslash escapes, or the end; and in front of it
@@ -60,7 +105,7 @@ fn marks_in(value: &[u8]) -> (bool, bool) {
 
 /// What may be odd in a line that is a setting.
 pub(crate) fn odd_setting(line: &[u8], name: &[u8], value: &[u8]) -> [Oddity; 3] {
-    let place = Span::between(word_behind(line, 0).from, line.len());
+    let place = Span::between(word_after(line, 0).from, line.len());
     let (has_variable, has_comment) = marks_in(value);
     let has_comment = has_comment && trim_end(line).ends_with(value);
     [
@@ -86,7 +131,7 @@ pub(crate) fn odd_setting(line: &[u8], name: &[u8], value: &[u8]) -> [Oddity; 3]
 }
 
 /// What may be odd in the fields of a line.
-pub(crate) fn odd_fields(line: &[u8]) -> [Oddity; 5] {
+pub(crate) fn odd_fields(line: &[u8]) -> [Oddity; 6] {
     let (minute, hour, day) = (field(line, 0), field(line, 1), field(line, 2));
     let has_star = day.starts_with(b"*".as_slice()) || field(line, 4).starts_with(b"*".as_slice());
     [
@@ -96,29 +141,21 @@ pub(crate) fn odd_fields(line: &[u8]) -> [Oddity; 5] {
             "EachMinute",
             "due at each minute of this hour: write 0 for one run, or 0-59",
         ),
-        (
-            is_uneven(minute, 60),
-            words(line, 0, 0),
-            "UnevenStep",
-            "the step begins anew each hour, after a shorter gap: take a divisor of 60",
-        ),
-        (
-            is_uneven(hour, 24),
-            words(line, 1, 1),
-            "UnevenStep",
-            "the step begins anew each day, after a shorter gap: take a divisor of 24",
-        ),
-        (
-            is_uneven(day, 1),
-            words(line, 2, 2),
-            "UnevenStep",
-            "the step begins anew each month, after another gap: list the days",
-        ),
+        uneven(line, 0, 60, HOUR_STEP),
+        uneven(line, 1, 24, DAY_STEP),
+        uneven(line, 2, 1, MONTH_STEP),
         (
             !day.is_empty() && !has_star,
             words(line, 2, 4),
             "BothDays",
             "either day is enough: to ask for both, test one in the command",
+        ),
+        (
+            has_sixth(line),
+            words(line, 5, 5),
+            "SixthField",
+            "cron has five fields, and this begins the command: drop the seconds in front, if the \
+             line is one of Quartz, Spring or robfig/cron, else drop this",
         ),
     ]
 }

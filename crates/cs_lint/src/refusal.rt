@@ -32,23 +32,6 @@ pub(crate) struct Looked {
     pub(crate) user: Option<u32>,
 }
 
-/// The fault of a table: one of a setting may be told at what is wrong in it, others at their
-/// column alone.
-pub(crate) fn first(
-    line: u32,
-    column: usize,
-    length: usize,
-    is_setting: bool,
-    name: &str,
-) -> FirstFault<'_> {
-    FirstFault {
-        line: u64::from(line),
-        from: column.saturating_sub(1),
-        more: if is_setting { length } else { 0 },
-        name,
-    }
-}
-
 /// The crontab, or why it's refused.
 fn table_or_refusal(
     alloc: Global,
@@ -67,7 +50,7 @@ fn table_or_refusal(
             },
         ) => {
             let is_setting = fault == LineFault::BadSetting;
-            Ok(Err(first(line, column, length, is_setting, fault.text())))
+            Ok(Err(FirstFault::of(line, column, length, is_setting, fault.text())))
         }
         Err(TableFault::OutOfMemory) => Err(AllocError),
     }
@@ -94,7 +77,7 @@ fn jobs_or_refusal(
             },
         ) => {
             let is_setting = fault == JobFault::BadSetting;
-            Ok(Err(first(line, column, length, is_setting, fault.text())))
+            Ok(Err(FirstFault::of(line, column, length, is_setting, fault.text())))
         }
         Err(AnacronFault::OutOfMemory) => Err(AllocError),
     }
@@ -113,13 +96,15 @@ fn plan_or_refusal(
     let declarations = match read_declarations(alloc, text) {
         Ok(declarations) => declarations,
         Err(DeclError::At { fault, place: _ }) => {
-            return Ok(Err(first(0, 0, 0, false, fault.text())));
+            return Ok(Err(FirstFault::of(0, 0, 0, false, fault.text())));
         }
         Err(DeclError::OutOfMemory) => return Err(AllocError),
     };
     match join(alloc, table, jobs, declarations) {
         Ok(plan) => Ok(Ok(plan)),
-        Err(DeclError::At { fault, place: _ }) => { Ok(Err(first(0, 0, 0, false, fault.text()))) }
+        Err(DeclError::At { fault, place: _ }) => {
+            Ok(Err(FirstFault::of(0, 0, 0, false, fault.text())))
+        }
         Err(DeclError::OutOfMemory) => Err(AllocError),
     }
 }

@@ -2,31 +2,25 @@
 use crate::changes::Change;
 use crate::clock::find_changes;
 use crate::declared::Declared;
-use crate::front::Front;
-use crate::line::{bad_setting, is_word_line, word_behind, word_from, words};
 use crate::odd_lines::{Oddity, odd_command, odd_end, odd_fields, odd_setting};
 use crate::planned::{Held, may_take};
-use crate::refusal::first;
-use crate::wanted::Wanted;
+use crate::wanted::{Wanted, has_name};
 use cs_anacrontab::{Entry as JobEntry, JobFault, MAX_JOBS, read_line as read_job_line};
 use cs_civil::all_kinds;
 use cs_crontab::{Entry, LineFault, MAX_COMMANDS, Schedule, When, read_line};
-use cs_diagnostics::{Done, Findings, FirstFault, Span, shown};
+use cs_diagnostics::{
+    COMMAND, Done, Findings, FirstFault, Span, TableKind, TableLine, find_mark, is_word_line,
+    shown, word_after, word_from, words,
+};
+use cs_explain::odd_name;
 use cs_place::Place;
 use cs_plan::DeclFault;
 use cs_schedule::Part;
-use cs_table::text::has_nul;
-use cs_table::{MAX_LINE, MAX_TABLE};
+use cs_table::MAX_TABLE;
+use cs_table::text::is_among;
 use indexmap::IndexMap;
 use std::alloc::{AllocError, Global};
 use std::fmt::Display;
-
-/// Which table it is.
-#[derive(Clone, Copy)]
-pub(crate) enum Kind {
-    Crontab,
-    Anacrontab,
-}
 
 /// What is known of a crontab beside its bytes.
 #[derive(Clone, Copy)]
@@ -72,12 +66,14 @@ pub(crate) struct Table<'a> {
     /// What was found where the clocks change.
     pub(crate) clock: Findings,
     wanted: Wanted<'a>,
-    kind: Kind,
+    kind: TableKind,
     pub(crate) beside: Beside<'a>,
     /// The line that is looked at, its number, and the byte of the table at which it begins.
     line: &'a [u8],
     number: u32,
     start: usize,
+    /// The names of what isn't odd in it, with commas between them, as the line above has them.
+    except: &'a str,
     /// The lines that begin as a command or a job does, in their order.
     pub(crate) begun: Vec<Begun<'a>>,
     /// The commands or identifiers, each with the first and the last line on which it stands.
@@ -97,7 +93,7 @@ impl<'a> Table<'a> {
     pub(crate) fn at(
         alloc: Global,
         bytes: &'a [u8],
-        kind: Kind,
+        kind: TableKind,
         wanted: Wanted<'a>,
         beside: Beside<'a>,
     ) -> Result<Self, AllocError> {
@@ -115,6 +111,7 @@ impl<'a> Table<'a> {
             line: bytes,
             number: 0,
             start: 0,
+            except: "",
             begun: Vec::new(alloc),
             names: IndexMap::new(alloc),
             same: IndexMap::new(alloc),
@@ -131,19 +128,28 @@ impl<'a> Table<'a> {
             let why = "a table has at most 1,048,576 bytes: remove what begins here";
             return self.fault(Span::of(MAX_TABLE, 1), LineFault::TooLong.text(), why);
         }
-        for line in bytes.split(|byte| *byte == b'\n') {
+        let mut text = bytes;
+        if matches!(self.kind, TableKind::Crontab) {
+            self.start = find_mark(&mut self.findings, bytes)?;
+            self.is_read = self.start == 0;
+            text = Span::between(self.start, bytes.len()).bytes(bytes);
+        }
+        for line in text.split(|byte| *byte == b'\n') {
             self.line = line;
             self.number = self.number.saturating_add(1);
             match self.kind {
-                Kind::Crontab => self.look_at_line()?,
-                Kind::Anacrontab => self.look_at_job_line()?,
+                TableKind::Crontab => {
+                    self.look_at_line()?;
+                    self.keep_exceptions()?;
+                }
+                TableKind::Anacrontab => self.look_at_job_line()?,
             }
             self.find_too_many()?;
             self.start = self.start.saturating_add(line.len()).saturating_add(1);
         }
         let (wanted, end) = (self.wanted, Span::of(bytes.len(), 0));
         match self.kind {
-            Kind::Crontab if !bytes.is_empty() && !bytes.ends_with(b"\n".as_slice()) => {
+            TableKind::Crontab if !bytes.is_empty() && !bytes.ends_with(b"\n".as_slice()) => {
                 let why = "Debian's cron takes no table without a newline at its end: add one";
                 wanted.odd(&mut self.findings, end, "NoNewline", why)
             }
@@ -170,6 +176,9 @@ impl<'a> Table<'a> {
 
     fn odd(&mut self, span: Span, name: &str, why: impl Display + Drop) -> Done {
         let wanted = self.wanted;
+        if !name.is_empty() && has_name(self.except, name) {
+            return Ok(());
+        }
         wanted.odd(&mut self.findings, span.behind(self.start), name, why)
     }
 
@@ -195,8 +204,8 @@ impl<'a> Table<'a> {
 
     fn find_too_many(&mut self) -> Done {
         let (most, fault, what) = match self.kind {
-            Kind::Crontab => (MAX_COMMANDS, LineFault::TooManyJobs.text(), COMMAND),
-            Kind::Anacrontab => (MAX_JOBS, JobFault::TooManyJobs.text(), "job"),
+            TableKind::Crontab => (MAX_COMMANDS, LineFault::TooManyJobs.text(), COMMAND),
+            TableKind::Anacrontab => (MAX_JOBS, JobFault::TooManyJobs.text(), "job"),
         };
         let number = self.begun.len();
         if number <= most || !self.is_whole {
@@ -211,71 +220,16 @@ impl<'a> Table<'a> {
 
     /// Adds what is wrong with a line that can't be read, whose first fault this is.
     fn look_at_bad(&mut self, fault: &FirstFault<'_>) -> Done {
-        let (line, place) = (self.line, Span::of(fault.from, 1));
-        if fault.name == LineFault::BadSetting.text() {
-            let (span, why) = bad_setting(line);
-            self.fault(span, fault.name, why)?;
-        } else {
+        if fault.name != LineFault::BadSetting.text() {
             self.is_read = false;
-            self.begin(word_from(line, 0), None, None)?;
-            if line.len() > MAX_LINE {
-                let len = line.len();
-                let why = format_args!("a line has at most 4,096 bytes, not {len}: shorten it");
-                self.fault(place, fault.name, why)?;
-            } else if has_nul(line) {
-                let why = "this byte is zero: delete it, or save the file as UTF-8";
-                self.fault(place, fault.name, why)?;
-            } else {
-                self.find_in_parts()?;
-            }
+            self.begin(word_from(self.line, 0), None, None)?;
         }
-        if self.findings.is_full() {
-            return Ok(());
-        }
-        self.findings.keep(fault)
-    }
-
-    fn find_in_parts(&mut self) -> Done {
-        let mut word = word_from(self.line, 0);
-        for (front, name) in Front::all(self.kind, is_word_line(self.line)) {
-            if word.is_empty() {
-                return self.find_missing(name);
-            }
-            self.find_in(*front, name, word)?;
-            word = word_from(self.line, word.to);
-        }
-        if word.is_empty() {
-            return self.find_missing(COMMAND);
-        }
-        Ok(())
-    }
-
-    fn find_missing(&mut self, name: &str) -> Done {
-        let end = Span::of(self.line.len(), 0);
-        let form = match self.kind {
-            Kind::Crontab if name == COMMAND => {
-                let why = "the command is missing: add it here";
-                return self.fault(end, LineFault::NoCommand.text(), why);
-            }
-            Kind::Crontab => "five fields and a command",
-            Kind::Anacrontab => "PERIOD DELAY IDENTIFIER COMMAND",
+        let line = TableLine {
+            kind: self.kind,
+            text: self.line,
+            start: self.start,
         };
-        let why = format_args!("the {name} is missing: write {form}");
-        self.fault(end, LineFault::MissingField.text(), why)
-    }
-
-    fn find_in(&mut self, front: Front, name: &str, word: Span) -> Done {
-        let mut from = word.from;
-        let (has_items, mut is_first) = (matches!(front, Front::Field(_, _)), true);
-        let text = word.bytes(self.line);
-        for item in text.split(|byte| has_items && *byte == b',') {
-            if let Some((fault, why)) = front.wrong(self.findings.alloc, name, item, is_first)? {
-                is_first = false;
-                self.fault(Span::of(from, item.len()), fault, why.as_str())?;
-            }
-            from = from.saturating_add(item.len()).saturating_add(1);
-        }
-        Ok(())
+        line.find_fault(&mut self.findings, fault)
     }
 
     fn look_at_line(&mut self) -> Done {
@@ -290,12 +244,34 @@ impl<'a> Table<'a> {
             }
             Ok(Entry::Command(when, command)) => self.look_at_command(when, command),
             Err(wrong) => {
-                let (column, fault) = (line.len() - wrong.left + 1, wrong.fault);
+                let mark = if number == 1 { self.start } else { 0 };
+                let column = (line.len() - wrong.left + 1).saturating_add(mark);
+                let fault = wrong.fault;
                 let is_setting = fault == LineFault::BadSetting;
-                let fault = first(number, column, wrong.length, is_setting, fault.text());
+                let fault = FirstFault::of(number, column, wrong.length, is_setting, fault.text());
                 self.look_at_bad(&fault)
             }
         }
+    }
+
+    /// Keeps the names for the next line that a comment `# cronsafe: except NAMES` gives, and adds
+    /// which of them is no odd name.
+    fn keep_exceptions(&mut self) -> Done {
+        let line = self.line;
+        self.except = "";
+        if !is_among(&[EXCEPT], words(line, 0, 2).bytes(line)) {
+            return Ok(());
+        }
+        let names = word_after(line, 3);
+        let (mut from, text) = (names.from, str::from_utf8(names.bytes(line)).unwrap_or(""));
+        for name in text.split(',') {
+            if odd_name(name).is_none() {
+                self.odd(Span::of(from, name.len()), "", NO_NAME)?;
+            }
+            from = from.saturating_add(name.len()).saturating_add(1);
+        }
+        self.except = text;
+        Ok(())
     }
 
     fn look_at_command(&mut self, when: When, command: &'a [u8]) -> Done {
@@ -317,8 +293,9 @@ impl<'a> Table<'a> {
         let place = word_from(line, line.len().saturating_sub(command.len()));
         if beside.user == Some(number) {
             let user = shown(self.findings.alloc, place.bytes(line))?;
-            let why = "is the command: this table has no user column, so remove it";
-            self.odd(place, "", format_args!("here `{user}` {why}"))?;
+            let what = "reads as the user in a line of a system table (/etc/crontab, /etc/cron.d)";
+            let why = "'cronsafe gather --system FILE' makes a user's table of one";
+            self.odd(place, "", format_args!("`{user}` {what}: {why}"))?;
         }
         self.find_odd(odd_fields(line).as_slice())?;
         self.find_odd(odd_command(line, command).as_slice())?;
@@ -379,7 +356,7 @@ impl<'a> Table<'a> {
                 first = day;
             }
         }
-        let place = Span::between(word_behind(self.line, 2).from, word_behind(self.line, 3).to);
+        let place = Span::between(word_after(self.line, 2).from, word_after(self.line, 3).to);
         let longest = format_args!("its longest month has {longest} days: change either");
         let words = format_args!("never due: its first day is {first}, but {longest}");
         self.odd(place, "", words)
@@ -389,7 +366,10 @@ impl<'a> Table<'a> {
     /// (`crontab(5)`, `anacrontab(5)`).
     fn find_unheeded(&mut self, name: &[u8]) -> Done {
         let why = match str::from_utf8(name).unwrap_or("") {
-            "CRON_TZ" => "remove it, and set \"offset\" in the declarations",
+            "CRON_TZ" => {
+                "Debian's cron ignores it, so remove it; cronie's follows it, but an \"offset\" in \
+                 the declarations is for all tables"
+            }
             "RANDOM_DELAY" => "remove it, since no start is delayed at random",
             "START_HOURS_RANGE" => {
                 "set \"hours\" in the declarations if anacron keeps to it: Debian's doesn't know it"
@@ -417,7 +397,7 @@ impl<'a> Table<'a> {
             Ok(JobEntry::Nothing) => Ok(()),
             Ok(JobEntry::Setting(name, _)) => self.find_unheeded(name),
             Ok(JobEntry::Job(_, _, name, _)) => {
-                let (span, number) = (word_behind(line, 2), self.number);
+                let (span, number) = (word_after(line, 2), self.number);
                 if let Some((first, _)) = self.names.get(&name).copied() {
                     let why = format_args!("line {first} has this identifier: choose another one");
                     self.fault(span, JobFault::TwiceNamed.text(), why)?;
@@ -429,7 +409,13 @@ impl<'a> Table<'a> {
             Err(wrong) => {
                 let (column, fault) = (line.len() - wrong.left + 1, wrong.fault);
                 let is_setting = fault == JobFault::BadSetting;
-                let fault = first(self.number, column, wrong.length, is_setting, fault.text());
+                let fault = FirstFault::of(
+                    self.number,
+                    column,
+                    wrong.length,
+                    is_setting,
+                    fault.text(),
+                );
                 self.look_at_bad(&fault)
             }
         }
@@ -492,8 +478,10 @@ fn without_backslashes(line: &[u8]) -> &[u8] {
     Span::of(0, end).bytes(line)
 }
 
-/// What is called the command of a line.
-const COMMAND: &str = "command";
+/// What begins a comment with names of what isn't odd in the next line.
+const EXCEPT: &[u8] = b"# cronsafe: except";
+
+const NO_NAME: &str = "nothing odd has this name: 'cronsafe explain' lists all names";
 
 const REBOOT_LOCK: &str =
     "the plan doesn't count with this run, which may take a group's lock: use another lock file";

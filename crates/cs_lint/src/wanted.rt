@@ -2,8 +2,9 @@
 use cs_diagnostics::{Done, Findings, Span};
 use std::fmt::Display;
 
-/// Which odd findings are told, by the names that `cronsafe explain` lists, in capital or small
-/// letters. One without a name has the empty one. Faults are always told.
+/// Which odd findings are told, by words of names that `cronsafe explain` lists, in capital or small
+/// letters, with commas between them. A finding without a name has the empty one. Faults are always
+/// told.
 #[derive(Clone, Copy)]
 pub(crate) struct Wanted<'a> {
     /// These alone; all where there are none.
@@ -14,10 +15,21 @@ pub(crate) struct Wanted<'a> {
     pub(crate) faults_only: bool,
 }
 
-/// Whether a name is one of these, but for the case of its letters.
-fn is_one_of(names: &[&str], name: &str) -> bool {
-    for own in names {
+/// Whether a word has that name among its own, which stand between commas, but for the case of its
+/// letters.
+pub(crate) fn has_name(word: &str, name: &str) -> bool {
+    for own in word.split(',') {
         if own.eq_ignore_ascii_case(name) {
+            return true;
+        }
+    }
+    false
+}
+
+/// Whether one of these words has that name.
+fn have_name(words: &[&str], name: &str) -> bool {
+    for word in words {
+        if has_name(word, name) {
             return true;
         }
     }
@@ -27,8 +39,8 @@ fn is_one_of(names: &[&str], name: &str) -> bool {
 impl Wanted<'_> {
     /// Whether an odd finding of that name is told.
     pub(crate) fn tells(&self, name: &str) -> bool {
-        let is_asked = self.only.is_empty() || is_one_of(self.only, name);
-        !self.faults_only && is_asked && !is_one_of(self.except, name)
+        let is_asked = self.only.is_empty() || have_name(self.only, name);
+        !self.faults_only && is_asked && !have_name(self.except, name)
     }
 
     /// Adds something odd of that name, where it's told, and why it's odd.

@@ -15,14 +15,3 @@ returns-in_err-bytes-in-Some-clause-step g c = λ fresh.
     let p = err_from_is_err_and c.from_residual.result c.from_residual.ensures.1 in
     let is = old_unread files (g.I.Inputs.left c.args.inputs.now) c.in-Some.path.now before after (g.I.Inputs.reads c.args.inputs.now) (g.I.Inputs.reads c.all_bytes_at.new.inputs) fault fresh c.in_err-bytes-in-Some.ensures.fails in
     rw (p.1, p.2) (subst (λ (o : Option (Bor (List ℕ))). CameTo (ReadsOld files (option_map (λ p. p.now) o) before after) (Err fault)) (sym c.in-Some.is) is)
-
-pub returns-in_ok-old-in-Some-clause-step : goal.returns-in_ok-old-in-Some-clause-step
-returns-in_ok-old-in-Some-clause-step g c = λ fresh.
-    let files = g.I.Inputs.whole c.args.inputs.now in
-    let before = g.I.Inputs.failed c.args.inputs.now in
-    let after = g.I.Inputs.failed c.all_bytes_at.new.inputs in
-    let read = c.in_ok-bytes-in-Some in
-    let old = c.in_ok-old-in-Some.old in
-    let is = subst (λ b. declared_by b ≡ Ok old) c.as_slice.ensures.value c.in_ok-old-in-Some.ensures in
-    let came = old_read files (g.I.Inputs.left c.args.inputs.now) c.in-Some.path.now read.bytes.items old before after read.ensures.works fresh read.ensures.bytes is in
-    subst (λ (o : Option (Bor (List ℕ))). ReadsOld files (option_map (λ p. p.now) o) before after (Ok (Some old))) (sym c.in-Some.is) came

@@ -2,7 +2,7 @@ use Rattle.std.proofs.Common.{◌≡◌, Ok, subst}
 use Rattle.cs_decl.specs.Join.{joined}
 use Rattle.cs_decl.specs.Meaning.{declared_by}
 use Rattle.std.proofs.lemmas.Result.{err_from_is_err_and}
-use Rattle.cs_files.proofs.TroubleLemmas.{plan_read, plan_unread}
+use Rattle.cs_files.proofs.TroubleLemmas.{plan_unmade, plan_unread}
 use Rattle.cs_files.proofs.reads.declared_plan_from.Goals as goal
 
 pub returns-in_err-bytes-clause-step : goal.returns-in_err-bytes-clause-step
@@ -14,7 +14,7 @@ returns-in_err-bytes-clause-step g c = λ fresh.
 pub returns-clause-step : goal.returns-clause-step
 returns-clause-step g c = λ fresh.
     let bytes = c.in_ok-bytes.bytes.items in
-    let d = c.in_ok-declarations.declarations in
-    let is = subst (λ b. declared_by b ≡ Ok d) c.as_slice.ensures.value c.in_ok-declarations.ensures in
-    plan_read (joined c.args.table c.args.jobs) (g.I.Inputs.whole c.args.inputs.now) (g.I.Inputs.left c.args.inputs.now) c.args.path.now bytes d c.in_ok-join.field-0
-    (g.I.Inputs.failed c.args.inputs.now) (g.I.Inputs.failed c.all_bytes_at.new.inputs) c.in_ok-bytes.ensures.works fresh c.in_ok-bytes.ensures.bytes is c.in_ok-join.ensures
+    let d = c.in-Ok.declarations in
+    let is = subst (λ b. declared_by b ≡ Ok d) c.as_slice.ensures.value c.in-Ok.ensures in
+    plan_unmade (joined c.args.table c.args.jobs) (g.I.Inputs.whole c.args.inputs.now) (g.I.Inputs.left c.args.inputs.now) c.args.path.now bytes d c.in-Err-join.error c.declared_fault-in-Err-join.result
+    (g.I.Inputs.failed c.args.inputs.now) _ c.in_ok-bytes.ensures.works fresh c.in_ok-bytes.ensures.bytes is c.in-Err-join.ensures c.declared_fault-in-Err-join.ensures

@@ -1,16 +1,16 @@
 //! The words of a line of a table, which has no newline.
-use cs_diagnostics::Span;
-use cs_table::text::{skip_blanks, word};
+use crate::span::Span;
+use cs_table::text::{is_among, skip_blanks, word};
 
 /// The next word from one of its bytes on; nothing at its end where there is none.
-pub(crate) fn word_from(line: &[u8], from: usize) -> Span {
+pub fn word_from(line: &[u8], from: usize) -> Span {
     let (found, rest) = word(skip_blanks(&line[from.min(line.len())..]));
     let behind = found.len().saturating_add(rest.len());
     Span::of(line.len().saturating_sub(behind), found.len())
 }
 
-/// The word behind so many others.
-pub(crate) fn word_behind(line: &[u8], others: usize) -> Span {
+/// The word after so many others.
+pub fn word_after(line: &[u8], others: usize) -> Span {
     let mut found = word_from(line, 0);
     for _ in 0..others {
         found = word_from(line, found.to);
@@ -19,12 +19,12 @@ pub(crate) fn word_behind(line: &[u8], others: usize) -> Span {
 }
 
 /// From the first of two words of a line to the end of the second, both counted from 0.
-pub(crate) fn words(line: &[u8], first: usize, last: usize) -> Span {
-    Span::between(word_behind(line, first).from, word_behind(line, last).to)
+pub fn words(line: &[u8], first: usize, last: usize) -> Span {
+    Span::between(word_after(line, first).from, word_after(line, last).to)
 }
 
 /// Whether a word such as `@daily` stands at the front of a line, in place of fields.
-pub(crate) fn is_word_line(line: &[u8]) -> bool {
+pub fn is_word_line(line: &[u8]) -> bool {
     word_from(line, 0).bytes(line).starts_with(b"@".as_slice())
 }
 
@@ -46,6 +46,12 @@ fn behind_quotes(line: &[u8], from: usize) -> Option<usize> {
     (end < line.len()).then_some(end.saturating_add(1))
 }
 
+/// Whether an item is `H`, `H/N` or `H(A-B)`, as those of Jenkins are.
+pub(crate) fn is_hashed(item: &[u8]) -> bool {
+    let behind = item.get(1).copied().unwrap_or(b'/');
+    item.starts_with(b"H".as_slice()) && (behind == b'/' || behind == b'(')
+}
+
 /// What is at fault in a setting that can't be read, and why.
 pub(crate) fn bad_setting(line: &[u8]) -> (Span, &'static str) {
     let name = word_from(line, 0).from;
@@ -63,6 +69,14 @@ pub(crate) fn bad_setting(line: &[u8]) -> (Span, &'static str) {
     }
     let equals = word_from(line, end);
     if line.get(equals.from) != Some(&b'=') {
+        let front = Span::between(name, end);
+        if is_among(&[b"export".as_slice()], front.bytes(line)) {
+            return (front, "remove `export`: a setting is NAME=VALUE alone");
+        }
+        if is_hashed(front.bytes(line)) {
+            let why = "Jenkins has `H` for a minute of its choice: write one, or `*/5` for `H/5`";
+            return (front, why);
+        }
         let why = "add `=`: a line that begins like this is a setting, NAME=VALUE";
         return (equals, why);
     }

@@ -1,13 +1,13 @@
-//! Where the lines of a gathered table come from, and what is told of them.
+//! Where the lines of a gathered table come from, and what is said of them.
+use crate::findings::Note;
 use cs_crontab::{Entry, read_line};
-use cs_diagnostics::Note;
 use cs_place::{Place, is_mark_name, push_place_text, push_places};
 use cs_table::MAX_TABLE;
 use std::alloc::{AllocError, Global};
 
 /// The places of the lines of a table, as its comments give them, if it's gathered; one with a fault
 /// too, if one of the lines that can be read sets the mark.
-pub(crate) fn places_in(alloc: Global, bytes: &[u8]) -> Result<Vec<Place>, AllocError> {
+pub fn places_in(alloc: Global, bytes: &[u8]) -> Result<Vec<Place>, AllocError> {
     let mut places = Vec::new(alloc);
     if bytes.len() > MAX_TABLE {
         return Ok(places);
@@ -24,8 +24,8 @@ pub(crate) fn places_in(alloc: Global, bytes: &[u8]) -> Result<Vec<Place>, Alloc
     Ok(places)
 }
 
-/// What is told of the lines that have places: `line 14 is /etc/cron.d/munin:12 (munin)`.
-pub(crate) fn notes_on(alloc: Global, places: &[Place]) -> Result<Vec<Note>, AllocError> {
+/// What is said of the lines that have places: `line 14 is /etc/cron.d/munin:12 (munin)`.
+pub fn notes_on(alloc: Global, places: &[Place]) -> Result<Vec<Note>, AllocError> {
     let mut notes = Vec::new(alloc);
     for place in places.iter() {
         let line = u64::from(place.line);

@@ -1,17 +1,35 @@
 //! The parts of a line that stand in front of its command: what each is called, and what is wrong
 //! with one.
-use crate::table::Kind;
+use crate::findings::Words;
+use crate::line::is_hashed;
+use crate::names::{meant, shown};
+use crate::span::Span;
 use cs_anacrontab::{JobFault, MAX_IDENTIFIER, is_identifier, read_delay, read_period};
 use cs_crontab::{LineFault, read_item, read_line};
-use cs_diagnostics::{Span, Words, meant, shown};
 use cs_schedule::Part;
+use cs_table::text::is_among;
 use std::alloc::{AllocError, Global};
 
 /// The words that may stand behind `@` (`crontab(5)`).
 const WORDS: &str = "@reboot @yearly @annually @monthly @weekly @daily @midnight @hourly";
 
+const EVERY: &str =
+    "robfig/cron has @every: write five fields, such as `*/5 * * * *` for `@every 5m`";
+
+/// What to write where an item of a day stands as the month.
+const FIVE: &str = "five fields, without the seconds in front";
+
 /// The words that may stand in place of a period (`anacrontab(5)`).
 const PERIODS: &str = "@daily @weekly @monthly";
+
+/// Which table it is.
+#[derive(Clone, Copy)]
+pub enum TableKind {
+    /// A user's table of cron.
+    Crontab,
+    /// A table of anacron.
+    Anacrontab,
+}
 
 /// A part of a line that stands in front of its command.
 #[derive(Clone, Copy)]
@@ -49,11 +67,11 @@ type Wrong = (&'static str, String);
 
 impl Front {
     /// Those of a line of a table, whose first word may begin with `@`.
-    pub(crate) fn all(kind: Kind, is_word: bool) -> &'static [Named] {
+    pub(crate) fn all(kind: TableKind, is_word: bool) -> &'static [Named] {
         match kind {
-            Kind::Crontab if is_word => WORD.as_slice(),
-            Kind::Crontab => FIELDS.as_slice(),
-            Kind::Anacrontab => JOB.as_slice(),
+            TableKind::Crontab if is_word => WORD.as_slice(),
+            TableKind::Crontab => FIELDS.as_slice(),
+            TableKind::Anacrontab => JOB.as_slice(),
         }
     }
 
@@ -69,7 +87,11 @@ impl Front {
         let fault = match self {
             Front::Word => match read_line(text) {
                 Err(wrong) if wrong.fault == LineFault::UnknownWord => {
-                    let why = unknown_words(alloc, text, WORDS)?;
+                    let why = if is_among(&[b"@every".as_slice()], text) {
+                        String::from_str(alloc, EVERY)?
+                    } else {
+                        unknown_words(alloc, text, WORDS)?
+                    };
                     return Ok(Some((wrong.fault.text(), why)));
                 }
                 _ => None,
@@ -112,9 +134,54 @@ fn item_words(
         _ => {
             let text = shown(alloc, item)?;
             let read = other_words(alloc, part, if is_first { item } else { &[] })?;
-            let range = format_args!("{first} to {last}{names}");
-            format!(in alloc; "`{text}` is no {name}{read}: write {range}")
+            let (source, advice) = form_of(part, item);
+            let range = format!(in alloc; "{first} to {last}{names}")?;
+            let advice = if advice.is_empty() {
+                range.as_str()
+            } else {
+                advice
+            };
+            format!(in alloc; "`{text}` is no {name}{source}{read}: write {advice}")
         }
+    }
+}
+
+/// Which other program has an item of that form, and what to write: the range of the field where
+/// nothing is said.
+fn form_of(part: Part, item: &[u8]) -> (&'static str, &'static str) {
+    let first = item.first().copied().unwrap_or(0);
+    let behind = item.get(1).copied().unwrap_or(b'-');
+    let last = item.last().copied().unwrap_or(0);
+    let is_lone = item.len() == 1;
+    if is_hashed(item) {
+        let advice = if behind == b'/' {
+            "`*` in place of `H`"
+        } else {
+            ""
+        };
+        return (" (Jenkins has it)", advice);
+    }
+    if item.contains(&b'~') {
+        return (" (cronie has it)", "");
+    }
+    if first == b'?' && is_lone {
+        let advice = if part == Part::Month { FIVE } else { "`*`" };
+        return (" (Quartz and Spring have it)", advice);
+    }
+    let is_last = first == b'L' && b"-W".contains(&behind);
+    let is_quartz = first.is_ascii_digit() && b"LW".contains(&last);
+    match part {
+        Part::Dow if is_last || is_quartz || (first != b'#' && item.contains(&b'#')) => {
+            let advice = "sun to sat, and test the day of the month in the command";
+            (" (Quartz has it, whose 1 is Sunday)", advice)
+        }
+        Part::Dom if is_last && is_lone => {
+            let advice = "28-31, and test in the command whether it's the last day";
+            (" (Quartz has it)", advice)
+        }
+        Part::Dom if is_last || is_quartz => (" (Quartz has it)", ""),
+        Part::Month if is_last || is_quartz => (" (Quartz has it)", FIVE),
+        _ => ("", ""),
     }
 }
 
@@ -146,9 +213,15 @@ fn reversed_words(alloc: Global, part: Part, item: &[u8]) -> Words {
     let (Some(from), Some(to), None) = (ends.next(), ends.next(), ends.next()) else {
         return format!(in alloc; "{why}: put the smaller number first");
     };
+    let is_sunday = part == Part::Dow && from == b"7".as_slice();
     let (from, to) = (shown(alloc, from)?, shown(alloc, to)?);
     let (first, last) = (part.first(), part.last());
-    format!(in alloc; "{why}: did you mean {from}-{last},{first}-{to}?")
+    let front = if is_sunday {
+        String::new(alloc)
+    } else {
+        format!(in alloc; "{from}-{last},")?
+    };
+    format!(in alloc; "{why}: did you mean {front}{first}-{to}?")
 }
 
 fn lone_step_words(alloc: Global, part: Part, item: &[u8]) -> Words {

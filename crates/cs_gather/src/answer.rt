@@ -54,7 +54,7 @@ fn add_table<'a, I: Folders>(
     let commands = table.commands(alloc, given)?;
     let parts = parts_asked(alloc, inputs, root, path, commands.as_slice(), notes)?;
     match gathering.add(alloc, path, bytes.as_slice(), commands, parts.as_slice()) {
-        Ok(()) => Ok(push_warnings(alloc, notes, path, &table)?),
+        Ok(()) => Ok(push_warnings(alloc, notes, path, bytes.as_slice(), &table)?),
         Err(fault) => Err(Fault::Gathered(path, fault)),
     }
 }

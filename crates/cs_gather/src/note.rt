@@ -15,13 +15,17 @@ pub(crate) fn push_line(text: &mut Vec<u8>, parts: &[&[u8]]) -> Result<(), Alloc
     text.extend_from_slice(b"\n")
 }
 
-/// Writes behind the text that something is passed over, and why.
+/// Writes behind the text that something is passed over, and why; but nothing of the file that Debian
+/// puts into its folders, so that they stay.
 pub(crate) fn push_passed_over(
     text: &mut Vec<u8>,
     folder: &str,
     name: &[u8],
     why: &str,
 ) -> Result<(), AllocError> {
+    if name == b".placeholder".as_slice() {
+        return Ok(());
+    }
     let (folder, why) = (folder.as_bytes(), why.as_bytes());
     push_line(text, &[b"note: ", folder, name, b" is passed over: ", why])
 }
@@ -39,6 +43,15 @@ pub(crate) fn push_at(
     push_shown(text, start)?;
     push_shown(text, place.as_bytes())?;
     push_line(text, rest)
+}
+
+/// Writes behind the text that a table has no newline at its end, if it has none.
+fn push_no_newline(text: &mut Vec<u8>, path: &str, bytes: &[u8]) -> Result<(), AllocError> {
+    if bytes.is_empty() || bytes.ends_with(b"\n".as_slice()) {
+        return Ok(());
+    }
+    let end = b" has no newline at its end: Debian's cron ignores such a table".as_slice();
+    push_line(text, &[b"note: ", path.as_bytes(), end])
 }
 
 /// Writes behind the text the warning of each setting that other daemons heed.
@@ -82,13 +95,15 @@ fn push_no_user(
     Ok(())
 }
 
-/// Writes behind the text what is to be warned of in a table.
+/// Writes behind the text what is to be warned of in a table of these bytes.
 pub(crate) fn push_warnings(
     alloc: Global,
     text: &mut Vec<u8>,
     path: &str,
+    bytes: &[u8],
     table: &Table,
 ) -> Result<(), AllocError> {
+    push_no_newline(text, path, bytes)?;
     let table = match table {
         Table::System(table) => {
             push_unheeded(alloc, text, path, table.settings())?;

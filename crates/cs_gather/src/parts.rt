@@ -90,6 +90,38 @@ fn parts_of<I: Folders>(
     Ok(none)
 }
 
+/// Whether a command runs what follows only where there is no anacron.
+fn is_without_anacron(command: &[u8]) -> bool {
+    command.starts_with(b"test -x /usr/sbin/anacron ||".as_slice())
+        || command.starts_with(b"[ -x /usr/sbin/anacron ] ||".as_slice())
+}
+
+/// Tells it of a command of the table at a path that anacron keeps from running anything.
+fn push_anacron<I: Folders>(
+    alloc: Global,
+    inputs: &mut I,
+    front: &str,
+    table: &str,
+    command: &Gathered,
+    notes: &mut Vec<u8>,
+) -> Result<(), AllocError>
+    ensures stays { NoneRead I.whole I.left I.reads inputs.old inputs.new }
+{
+    if !is_without_anacron(command.command.as_slice()) {
+        return Ok(());
+    }
+    match found_at(alloc, inputs, front, "/usr/sbin/anacron") {
+        Ok((path, Some(FileKind::Program))) => {
+            let start = b"note: the command".as_slice();
+            let end = b" is there: declare its parts at the job of anacron".as_slice();
+            let rest: [&[u8]; 3] = [b" runs nothing, since ", path.as_bytes(), end];
+            push_at(alloc, notes, start, command.number, table, &rest)
+        }
+        Ok(_) | Err(Unlisted::CannotRead(_, _)) => Ok(()),
+        Err(Unlisted::OutOfMemory) => Err(AllocError),
+    }
+}
+
 /// The parts of each of these commands of the table at a path, where a root folder is asked. A
 /// folder that can't be read is told.
 pub(crate) fn parts_asked<I: Folders>(
@@ -108,6 +140,7 @@ pub(crate) fn parts_asked<I: Folders>(
     };
     let front = front(root);
     for command in commands {
+        push_anacron(alloc, inputs, front, table, command, notes)?;
         parts.push(parts_of(alloc, inputs, front, table, command, notes)?)?;
     }
     Ok(parts)

@@ -58,7 +58,10 @@ fn logs_at<'a, I: Inputs>(
     let jobs = jobs_of(alloc, tables.crontab.lines(), tables.places.as_slice())?;
     let mut log = Log::new(alloc, jobs);
     match read_logs(alloc, inputs, paths, &mut log) {
-        Ok(()) => Ok(log),
+        Ok(()) => {
+            log.close()?;
+            Ok(log)
+        }
         Err(unread) => Err(fault_of(unread)),
     }
 }

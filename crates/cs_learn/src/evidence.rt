@@ -2,9 +2,6 @@
 use cs_retrace::Moment;
 use std::alloc::{AllocError, Global};
 
-/// How many counts there are: of runs of 1 to 4,320 minutes, and of longer ones.
-const PLACES: usize = 4_321;
-
 /// A run that has ended, or of which no line of the logs tells the end.
 #[derive(Clone, Copy)]
 pub struct Ran {
@@ -19,7 +16,7 @@ pub struct Ran {
 /// What is known of a job's runs.
 #[derive(Drop)]
 pub struct Evidence {
-    /// How many runs took so many minutes, rounded up, from 1 on; at last, how many took longer.
+    /// How many runs took so many seconds, from 0 on; at 259,201, how many took more than three days.
     counts: Vec<u64>,
     /// How many have ended.
     pub count: u64,
@@ -32,40 +29,44 @@ pub struct Evidence {
 }
 
 impl Evidence {
-    /// What is known before any run. The only error is out of memory.
-    pub(crate) fn new(alloc: Global) -> Result<Evidence, AllocError> {
-        Ok(Evidence {
-            counts: vec![in alloc; 0; PLACES]?,
+    /// What is known before any run, without allocating.
+    pub(crate) fn new(alloc: Global) -> Evidence {
+        Evidence {
+            counts: Vec::new(alloc),
             count: 0,
             longest: None,
             unended: 0,
             longest_open: None,
-        })
+        }
     }
 
-    /// Takes one more run.
-    pub(crate) fn add(&mut self, run: Ran) {
+    /// Takes one more run. The only error is out of memory.
+    pub(crate) fn add(&mut self, run: Ran) -> Result<(), AllocError> {
         if !run.has_ended {
             self.unended = self.unended.saturating_add(1);
             self.longest_open = longer(self.longest_open, run);
-            return;
+            return Ok(());
         }
-        let place = (run.seconds.saturating_sub(1) / 60).min(4_320) as usize;
+        let place = run.seconds.min(259_201) as usize;
+        if self.counts.len() <= place {
+            self.counts.resize(place + 1, 0)?;
+        }
         if let Some(count) = self.counts.get_mut(place) {
             *count = count.saturating_add(1);
         }
         self.count = self.count.saturating_add(1);
         self.longest = longer(self.longest, run);
+        Ok(())
     }
 
-    /// The median of the runs in minutes, rounded up: at least half of the runs took at most so long,
-    /// and fewer than half took less. 4,321 stands for more than 4,320 minutes, and `None` for no run.
-    pub(crate) fn median(&self) -> Option<usize> {
+    /// The median of the runs in seconds: at least half of the runs took at most so long, and fewer than
+    /// half took less. 259,201 stands for more than three days, and `None` for no run.
+    pub(crate) fn median(&self) -> Option<u64> {
         let mut seen = 0u64;
-        for (place, count) in self.counts.iter().enumerate() {
+        for (seconds, count) in self.counts.iter().enumerate() {
             seen = seen.saturating_add(*count);
             if seen > 0 && self.count <= seen.saturating_mul(2) {
-                return Some(place.saturating_add(1));
+                return Some(seconds as u64);
             }
         }
         None
@@ -74,7 +75,7 @@ impl Evidence {
     /// How many runs took longer than so many minutes, at most 4,320.
     pub(crate) fn longer_than(&self, minutes: u16) -> u64 {
         let mut longer = 0u64;
-        for count in self.counts.iter().skip(usize::from(minutes)) {
+        for count in self.counts.iter().skip(60 * usize::from(minutes) + 1) {
             longer = longer.saturating_add(*count);
         }
         longer

@@ -40,7 +40,7 @@ impl Job {
             debian: logged(alloc, true, line.command())?,
             cronie: logged(alloc, false, line.command())?,
             shown: Bytes::from_vec(shown),
-            evidence: Evidence::new(alloc)?,
+            evidence: Evidence::new(alloc),
             refused: 0,
         })
     }
@@ -67,26 +67,28 @@ impl Job {
 
     /// Takes a run of this line, if that is of the job: by the number of its line in this program's log,
     /// and by its command where that lists the table; in cron's by its command and user.
-    fn take(&mut self, line: &LogLine, ran: Ran) {
+    fn take(&mut self, line: &LogLine, ran: Ran) -> Result<(), AllocError> {
         if line.due.is_none() {
             if self.is_called(line.user.as_slice(), line.command.as_slice()) {
-                self.evidence.add(ran);
+                self.evidence.add(ran)?;
             }
         } else if self.number == line.number {
             if !line.is_listed || is_word(self.shown.as_slice(), line.command.as_slice()) {
-                self.evidence.add(ran);
+                self.evidence.add(ran)?;
             } else {
                 self.refused = self.refused.saturating_add(1);
             }
         }
+        Ok(())
     }
 }
 
-/// Has each job take a run of this line.
-pub(crate) fn take_run(jobs: &mut Vec<Job>, line: &LogLine, ran: Ran) {
+/// Has each job take a run of this line. The only error is out of memory.
+pub(crate) fn take_run(jobs: &mut Vec<Job>, line: &LogLine, ran: Ran) -> Result<(), AllocError> {
     for i in 0..jobs.len() {
-        jobs[i].take(line, ran);
+        jobs[i].take(line, ran)?;
     }
+    Ok(())
 }
 
 /// The jobs of a crontab's lines. The only error is out of memory.

@@ -124,9 +124,11 @@ fn of_own(alloc: Global, at: Moment, text: &[u8]) -> Option<LogLine> {
 
 /// What a line of a log says of a run, without its newline: `None` where it says nothing.
 ///
-/// Lines of Debian's cron and cronie through syslog, with a time of RFC 3339 in place of syslog's
-/// too, through `journalctl -o json`, and of this program's own log. The only error is out of
-/// memory.
+/// Lines of Debian's cron and cronie through syslog, with a time of RFC 3339 or of `journalctl -o
+/// short-iso` in place of syslog's too, through `journalctl -o json`, and of this program's own log. That
+/// PAM closes a session is no end: the line names the user and the parent of the job's process alone,
+/// and of two sessions of one user that begin at once the earlier parent may have the later job. The
+/// only error is out of memory.
 pub(crate) fn read_line(alloc: Global, text: &[u8]) -> Result<Option<LogLine>, AllocError> {
     if text.starts_with(b"{") {
         return journal(alloc, text);

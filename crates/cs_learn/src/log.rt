@@ -56,6 +56,10 @@ pub struct Log {
     commands: IndexMap<u64, Bytes>,
     /// How many lines told what.
     pub tally: Tally,
+    /// The paths of the logs that are compressed.
+    pub compressed: Vec<Bytes>,
+    /// Whether the log that is read is compressed.
+    is_compressed: bool,
     line: Vec<u8>,
     /// The jobs, and what is known of each.
     jobs: Vec<Job>,
@@ -64,6 +68,13 @@ pub struct Log {
 /// What the log calls a run: 0 stands for no due minute.
 fn name(line: &LogLine) -> (u64, u64) {
     (line.number, line.due.unwrap_or(0))
+}
+
+/// Whether a line begins as a file of gzip, xz or zstd does.
+fn is_compressed(line: &[u8]) -> bool {
+    line.starts_with(b"\x1f\x8b")
+        || line.starts_with(b"\xfd7zXZ")
+        || line.starts_with(b"\x28\xb5\x2f\xfd")
 }
 
 /// A run that has no end: it took all the time up to a later moment, as far as anyone knows, and more
@@ -91,6 +102,8 @@ impl Log {
                 unclear: 0,
                 too_long: 0,
             },
+            compressed: Vec::new(alloc),
+            is_compressed: false,
             line: Vec::new(alloc),
             jobs,
         }
@@ -109,7 +122,7 @@ impl Log {
         self.tally.begun = self.tally.begun.saturating_add(1);
         if let Some(run) = self.open.insert(name(&line), line)? {
             self.tally.unended = self.tally.unended.saturating_add(1);
-            take_run(&mut self.jobs, &run, without_end(&run, self.last));
+            take_run(&mut self.jobs, &run, without_end(&run, self.last))?;
         }
         Ok(())
     }
@@ -135,7 +148,7 @@ impl Log {
         None
     }
 
-    fn end_run(&mut self, line: &LogLine) {
+    fn end_run(&mut self, line: &LogLine) -> Result<(), AllocError> {
         self.last = line.at;
         let began = match self.nearest(line) {
             Some(name) => self.open.shift_remove(&name),
@@ -143,11 +156,11 @@ impl Log {
         };
         let Some(run) = began else {
             self.tally.no_beginning = self.tally.no_beginning.saturating_add(1);
-            return;
+            return Ok(());
         };
         let Some(seconds) = passed(run.at, line.at) else {
             self.tally.unclear = self.tally.unclear.saturating_add(1);
-            return;
+            return Ok(());
         };
         self.tally.runs = self.tally.runs.saturating_add(1);
         let ran = Ran {
@@ -155,7 +168,7 @@ impl Log {
             seconds,
             has_ended: true,
         };
-        take_run(&mut self.jobs, line, ran);
+        take_run(&mut self.jobs, line, ran)
     }
 
     /// Takes a line on a run, with the command that is listed for it, if a table is listed.
@@ -170,10 +183,7 @@ impl Log {
         }
         match line.sign {
             Sign::Begin => self.begin(line),
-            _ => {
-                self.end_run(&line);
-                Ok(())
-            }
+            _ => self.end_run(&line),
         }
     }
 
@@ -201,7 +211,9 @@ impl Log {
     }
 
     fn end_line(&mut self, alloc: Global) -> Result<(), AllocError> {
-        if self.line.len() > MAX_LINE {
+        if is_compressed(self.line.as_slice()) {
+            self.is_compressed = true;
+        } else if self.line.len() > MAX_LINE {
             self.tally.too_long = self.tally.too_long.saturating_add(1);
         } else if let Some(line) = read_line(alloc, self.line.as_slice())? {
             self.take(alloc, line)?;
@@ -210,20 +222,21 @@ impl Log {
         }
         self.line.clear();
         if self.open.len() >= MAX_OPEN {
-            self.close();
+            self.close()?;
         }
         Ok(())
     }
 
-    /// Takes the end of all logs, which tell no end of what is open.
-    pub(crate) fn close(&mut self) {
+    /// Takes the end of all logs, which tell no end of what is open. The only error is out of memory.
+    pub(crate) fn close(&mut self) -> Result<(), AllocError> {
         for place in 0..self.open.len() {
             if let Some((_name, line)) = self.open.get_index(place) {
-                take_run(&mut self.jobs, line, without_end(line, self.last));
+                take_run(&mut self.jobs, line, without_end(line, self.last))?;
             }
         }
         self.tally.unended = self.tally.unended.saturating_add(self.open.len() as u64);
         self.open.clear();
+        Ok(())
     }
 
     /// Takes the next bytes of a log. The only error is out of memory, after which nothing is known.
@@ -238,12 +251,17 @@ impl Log {
         Ok(())
     }
 
-    /// Takes the end of a log, which ends a last line without a newline. The only error is out of
-    /// memory, after which nothing is known.
-    pub(crate) fn end(&mut self, alloc: Global) -> Result<(), AllocError> {
-        if self.line.is_empty() {
-            return Ok(());
+    /// Takes the end of the log at this path, which ends a last line without a newline. The only error is
+    /// out of memory, after which nothing is known.
+    pub(crate) fn end(&mut self, alloc: Global, path: &str) -> Result<(), AllocError> {
+        if !self.line.is_empty() {
+            self.end_line(alloc)?;
         }
-        self.end_line(alloc)
+        if self.is_compressed {
+            self.is_compressed = false;
+            self.compressed
+                .push(Bytes::from_slice(alloc, path.as_bytes())?)?;
+        }
+        Ok(())
     }
 }

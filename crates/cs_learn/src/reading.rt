@@ -30,7 +30,7 @@ fn read_log<I: Inputs>(
     let mut buf = [0u8; 4096];
     for _reads in 0..MOST_READS {
         match inputs.read(path, buf.as_mut_slice())? {
-            0 => return Ok(log.end(alloc)?),
+            0 => return Ok(log.end(alloc, path)?),
             n => log.bytes(alloc, &buf[..n])?,
         }
     }
@@ -47,8 +47,7 @@ pub struct Unread<'a> {
 }
 
 /// Reads all of the logs at these paths one after the other, in memory that doesn't grow with their
-/// length: a run may begin in one and end in a later one, and one that is open behind all of them
-/// has no end. A log without end after [`MOST_READS`](cs_io::MOST_READS) reads can't be read. After
+/// length: a run may begin in one and end in a later one. A log without end after [`MOST_READS`](cs_io::MOST_READS) reads can't be read. After
 /// an error nothing is known of the jobs.
 pub(crate) fn read_logs<'a, I: Inputs>(
     alloc: Global,
@@ -74,10 +73,7 @@ pub(crate) fn read_logs<'a, I: Inputs>(
         (I.reads inputs.old) (I.reads inputs.new) }
 {
     match paths.split_first() {
-        None => {
-            log.close();
-            Ok(())
-        }
+        None => Ok(()),
         Some((path, later)) => match read_log(alloc, inputs, *path, log) {
             Ok(()) => read_logs(alloc, inputs, later, log),
             Err(fault) => Err(Unread { path: *path, fault }),

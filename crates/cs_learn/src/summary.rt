@@ -3,11 +3,11 @@ use crate::clock::push_moment;
 use crate::evidence::{Evidence, Ran};
 use crate::job::Job;
 use crate::learned::max_of_job;
-use crate::log::{Log, Tally};
+use crate::log::Log;
 use crate::max::Factor;
 use cs_civil::{Bytes, push_number};
 use cs_crontab::{Line, When};
-use cs_place::{Place, place_of, push_place_text};
+use cs_place::{Place, place_of, push_place_text, push_shown};
 use cs_retrace::LONGEST_MAX;
 use cs_schedule::least_gap;
 use std::alloc::{AllocError, Global};
@@ -28,6 +28,13 @@ const UNCLEAR: &[u8] =
 
 const TOO_LONG: &[u8] = b"note: lines left out, since they have more than 8192 bytes: ";
 
+const NO_STARTS: &[u8] =
+    b"note: no line of the logs tells that a job starts. learn reads syslog files, \
+    journalctl -o short, short-iso or json, and logs of run\n";
+
+/// So many lines without runs are listed.
+const MOST_LISTED: u64 = 20;
+
 type Done = Result<(), AllocError>;
 
 /// `1 run`, or `2 runs`.
@@ -36,51 +43,100 @@ fn runs(alloc: Global, count: u64) -> Result<String, AllocError> {
     format!(in alloc; "{count} run{ending}")
 }
 
-/// `2 runs (fewer than 10), median 1 min, longest 90 s from Nov  7 09:17:01`
+/// Adds a time in hours, minutes and seconds, without those that are 0: `20 s`, `1 h 3 min 16 s`.
+fn push_time(alloc: Global, text: &mut Vec<u8>, seconds: u64) -> Done {
+    if seconds == 0 {
+        return text.extend_from_slice(b"0 s");
+    }
+    let parts = [
+        (seconds / 3_600, "h"),
+        (seconds / 60 % 60, "min"),
+        (seconds % 60, "s"),
+    ];
+    let mut blank = "";
+    for (count, unit) in parts {
+        if count > 0 {
+            text.extend_from_slice(format!(in alloc; "{blank}{count} {unit}")?.as_bytes())?;
+            blank = " ";
+        }
+    }
+    Ok(())
+}
+
+/// `2 runs (fewer than 10), median 20 s, longest 1 min 30 s from Nov  7 09:17:01`
 fn push_runs(alloc: Global, text: &mut Vec<u8>, evidence: &Evidence, longest: Ran) -> Done {
     text.extend_from_slice(runs(alloc, evidence.count)?.as_bytes())?;
     if evidence.count < FEW_RUNS {
         text.extend_from_slice(format!(in alloc; " (fewer than {FEW_RUNS})")?.as_bytes())?;
     }
     match evidence.median() {
-        Some(4_321) => text.extend_from_slice(b", median more than 4320 min")?,
+        Some(259_201) => text.extend_from_slice(b", median more than 72 h")?,
         Some(median) => {
-            text.extend_from_slice(format!(in alloc; ", median {median} min")?.as_bytes())?
+            text.extend_from_slice(b", median ")?;
+            push_time(alloc, text, median)?;
         }
         None => {}
     }
-    let seconds = longest.seconds;
-    text.extend_from_slice(format!(in alloc; ", longest {seconds} s from ")?.as_bytes())?;
+    text.extend_from_slice(b", longest ")?;
+    push_time(alloc, text, longest.seconds)?;
+    text.extend_from_slice(b" from ")?;
     push_moment(text, longest.began)
 }
 
-/// `line 3: 2 runs (fewer than 10), median 1 min, longest 90 s from Nov  7 09:17:01, max 3 min`, with the
-/// place of the line behind its number where it has one, such as `, /etc/cron.d/munin:12 (munin)`.
+/// `line 3: 2 runs (fewer than 10), median 20 s, longest 1 min 30 s from Nov  7 09:17:01, max 3 min`, with
+/// the place of the line behind its number where it has one, such as `, /etc/cron.d/munin:12 (munin)`.
+/// Nothing where no run has ended.
 fn push_row(
     alloc: Global,
     text: &mut Vec<u8>,
     places: &[Place],
     line: &Line,
     evidence: &Evidence,
-    max: Option<u64>,
+    factor: Factor,
 ) -> Done {
+    let Some(longest) = evidence.longest else {
+        return Ok(());
+    };
     text.extend_from_slice(b"line ")?;
     push_number(alloc, text, u128::from(line.number()))?;
     if let Some(place) = place_of(places, line.number()) {
         text.extend_from_slice(b", ")?;
         push_place_text(text, place)?;
     }
-    match evidence.longest {
-        Some(longest) => {
-            text.extend_from_slice(b": ")?;
-            push_runs(alloc, text, evidence, longest)?;
-        }
-        None => text.extend_from_slice(b": no runs")?,
-    }
-    if let Some(max) = max {
+    text.extend_from_slice(b": ")?;
+    push_runs(alloc, text, evidence, longest)?;
+    if let Some(max) = max_of_job(evidence, factor) {
         text.extend_from_slice(b", max ")?;
         push_number(alloc, text, u128::from(max))?;
         text.extend_from_slice(b" min")?;
+    }
+    text.extend_from_slice(b"\n")
+}
+
+/// `no ended runs of 3 lines: 1, 4, 7`: at most 20 of them are listed, and behind these `and 3 more`.
+fn push_without_runs(alloc: Global, text: &mut Vec<u8>, jobs: &[Job]) -> Done {
+    let mut listed = Vec::new(alloc);
+    let mut count = 0u64;
+    for job in jobs {
+        if job.evidence.longest.is_none() {
+            count = count.saturating_add(1);
+            if count <= MOST_LISTED {
+                listed.extend_from_slice(if count == 1 { b" " } else { b", ".as_slice() })?;
+                push_number(alloc, &mut listed, u128::from(job.number))?;
+            }
+        }
+    }
+    if count == 0 {
+        return Ok(());
+    }
+    let ending = if count == 1 { "" } else { "s" };
+    text.extend_from_slice(format!(in alloc;
+        "no ended runs of {count} line{ending}:"
+    )?.as_bytes())?;
+    text.extend_from_slice(listed.as_slice())?;
+    let more = count.saturating_sub(MOST_LISTED);
+    if more > 0 {
+        text.extend_from_slice(format!(in alloc; " and {more} more")?.as_bytes())?;
     }
     text.extend_from_slice(b"\n")
 }
@@ -180,13 +236,25 @@ fn push_left_out(alloc: Global, text: &mut Vec<u8>, told: &[u8], count: u64) -> 
     text.extend_from_slice(b"\n")
 }
 
+/// Tells which logs are compressed.
+fn push_compressed(text: &mut Vec<u8>, paths: &[Bytes]) -> Done {
+    for path in paths {
+        text.extend_from_slice(b"note: ")?;
+        push_shown(text, path.as_slice())?;
+        text.extend_from_slice(b" is compressed: give it by zcat, xzcat or zstdcat\n")?;
+    }
+    Ok(())
+}
+
 /// Tells what the lines of the logs don't tell.
-fn push_tally(alloc: Global, text: &mut Vec<u8>, tally: Tally) -> Done {
+fn push_tally(alloc: Global, text: &mut Vec<u8>, log: &Log) -> Done {
+    let tally = log.tally;
+    push_compressed(text, log.compressed.as_slice())?;
     if tally.has_no_ends() {
         text.extend_from_slice(NO_ENDS)?;
     } else {
-        if tally.begun == 0 {
-            text.extend_from_slice(b"note: no line of the logs tells that a job starts\n")?;
+        if tally.begun == 0 && log.compressed.is_empty() {
+            text.extend_from_slice(NO_STARTS)?;
         }
         push_left_out(alloc, text, UNENDED, tally.unended)?;
     }
@@ -232,10 +300,10 @@ pub(crate) fn summary_of(
 ) -> Result<Bytes, AllocError> {
     let mut text = Vec::new(alloc);
     for (line, known) in lines.iter().zip(log.jobs().iter()) {
-        let max = max_of_job(&known.evidence, factor);
-        push_row(alloc, &mut text, places, line, &known.evidence, max)?;
+        push_row(alloc, &mut text, places, line, &known.evidence, factor)?;
     }
+    push_without_runs(alloc, &mut text, log.jobs())?;
     push_notes(alloc, &mut text, lines, log, factor)?;
-    push_tally(alloc, &mut text, log.tally)?;
+    push_tally(alloc, &mut text, log)?;
     Ok(Bytes::from_vec(text))
 }

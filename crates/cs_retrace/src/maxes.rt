@@ -1,8 +1,7 @@
 //! The longest times of jobs, as `learn` prints them and `draft` reads them: a line each, as
 //! `line 3 25`, for 25 minutes of the job on line 3 of the crontab.
-ghost use Rattle.std.specs.Prelude.{◌≡◌, IfErr, IfOk, None, Some, option_map};
-ghost use Rattle.std.specs.List.{find, list_any};
-ghost use Rattle.cs_retrace.specs.Maxes.{given_in, is_given, is_quiet, max_in, max_of, one_given};
+ghost use Rattle.std.specs.Prelude.{◌≡◌, Err, IfErr, IfOk, None, Some};
+ghost use Rattle.cs_retrace.specs.Maxes.{given_in, is_given, is_quiet, max_in, max_of, one_of, read_in};
 
 use crate::words::{behind, number, split};
 use cs_table::text::first_line;
@@ -67,10 +66,9 @@ pub fn max_of(given: &[Given], number: u64) -> Option<u64>
     }
 }
 
-/// What a line gives behind others.
+/// What a line at that place gives behind others, or what is wrong with it.
 fn one_given(place: u64, given: &[Given], text: &[u8]) -> Result<Given, MaxFault>
-    ensures one { IfOk result (λ one. one_given place given.now text.now ≡ Some one) }
-    ensures none { IfErr result (λ e. one_given place given.now text.now ≡ None) }
+    ensures { result ≡ one_of place given.now (max_in text.now) }
 {
     let Some((number, max)) = max_in(text) else {
         return Err(MaxFault::Shape);
@@ -86,14 +84,14 @@ fn one_given(place: u64, given: &[Given], text: &[u8]) -> Result<Given, MaxFault
 
 /// Reads the longest times that a text gives; or finds its first line that has a fault. Empty lines
 /// and those that begin with `#` give none. The only error is out of memory.
-#[tactic(auto, unfolding(crate::specs::Maxes::given_by, cs_table::specs::Text::lines_of))]
+#[tactic(auto, unfolding(crate::specs::Maxes::given_by, crate::specs::Maxes::numbered, cs_table::specs::Text::lines_of))]
 pub fn read_maxes(
     alloc: Global,
     text: &[u8],
 ) -> Result<Result<Vec<Given>, (u64, MaxFault)>, AllocError>
     ensures given { IfOk result
         (λ read. IfOk read (λ given. given_in text.now ≡ Some given.items)) }
-    ensures fault { IfOk result (λ read. IfErr read (λ fault. given_in text.now ≡ None)) }
+    ensures fault { IfOk result (λ read. IfErr read (λ fault. read_in text.now ≡ Err fault)) }
 {
     let mut given = Vec::new(alloc);
     let mut place = 1u64;

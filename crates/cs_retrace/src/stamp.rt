@@ -1,4 +1,4 @@
-//! When a line was written, as syslog and RFC 3339 write it.
+//! When a line was written, as syslog, RFC 3339 and `journalctl -o short-iso` write it.
 ghost use Rattle.std.specs.Prelude.{◌≤◌, IfSome};
 
 use crate::moment::Moment;
@@ -57,16 +57,15 @@ pub fn moment_of_year(text: &[u8]) -> Option<(Moment, &[u8])> {
     Some((Moment::OfYear(seconds(&date, clock)?), rest))
 }
 
-/// The seconds by UTC, of those by a clock with an offset such as `Z` or `+02:00`.
+/// The seconds by UTC, of those by a clock with an offset such as `Z`, `+02:00` or `+0200`.
 fn by_utc(local: u64, zone: &[u8]) -> Option<u64> {
-    let &[sign, h1, h2, b':', m1, m2] = zone else {
-        return if is_word(zone, b"Z") {
-            Some(local)
-        } else {
-            None
-        };
+    let (sign, hours, minutes) = match zone {
+        &[b'Z'] => return Some(local),
+        &[sign, h1, h2, b':', m1, m2] => (sign, [h1, h2], [m1, m2]),
+        &[sign, h1, h2, m1, m2] => (sign, [h1, h2], [m1, m2]),
+        _ => return None,
     };
-    let (hours, minutes) = (number(&[h1, h2])?, number(&[m1, m2])?);
+    let (hours, minutes) = (number(&hours)?, number(&minutes)?);
     if hours > 23 || minutes > 59 {
         return None;
     }

@@ -3,6 +3,7 @@ ghost use Rattle.std.specs.Prelude.{[], ◌∷◌, IfOk, OnOk, string_bytes};
 ghost use Rattle.cs_chart.specs.Chart.{IsPictureOf, shown_of};
 
 use crate::bar::{Bar, bars_of, push_stretches};
+use crate::guard::work_of;
 use crate::load::{Found, add_weight};
 use crate::look::{colour_of, push_lines};
 use crate::marks::{marks_of, without_gaps};
@@ -10,8 +11,7 @@ use crate::meeting::Meeting;
 use crate::row::{Name, Row};
 use crate::sheet::{MARGIN, NAME_CELLS, PLOT_LEFT, PLOT_RIGHT, ROW, begin_plot};
 use crate::span::DaySpan;
-use crate::text::{push_cut, push_label};
-use cs_command::program_text;
+use crate::text::{push_cut, push_end, push_label, push_minute};
 use cs_history::Mode;
 use cs_windows::Occupied;
 use std::alloc::{AllocError, Global};
@@ -30,60 +30,48 @@ pub(crate) struct Beside<'a> {
 /// How many cells of a name are told where a reader points at its row.
 const TOLD_CELLS: usize = 120;
 
+/// How many cells of a line's place have room in front of its program.
+pub(crate) const PLACE_CELLS: usize = 18;
+
 // ---- names
 
-/// Adds `line 5 ` or `job `, and words behind it, so many cells of all at most.
-fn push_words(
-    text: &mut String,
-    name: Name<'_>,
-    words: &[u8],
-    cells: usize,
-) -> Result<(), AllocError> {
-    let start = text.len();
-    match name {
-        Name::Line(number, _) => write!(text, "line {number} ")?,
-        Name::Job(_) => text.push_str("job ")?,
-    }
-    let left = cells.saturating_sub(text.len().saturating_sub(start));
-    push_cut(text, words, left)
-}
-
-/// Adds `line 5 /usr/bin/backup` or `job cron.weekly`, as far as there is room for it in front of
-/// the bars.
-fn push_name(text: &mut String, name: Name<'_>, y: u32) -> Result<(), AllocError> {
-    let words = match name {
-        Name::Line(_, command) => program_text(command),
-        Name::Job(identifier) => identifier,
-    };
-    write!(text, "<text x=\"{MARGIN}\" y=\"{y}\">")?;
-    push_words(text, name, words, NAME_CELLS)?;
-    text.push_str("</text>\n")
-}
-
-/// Adds which jobs it meets: `, meets line 5, job cron.weekly`.
-fn push_met_names(text: &mut String, names: &[Name<'_>]) -> Result<(), AllocError> {
-    for (place, name) in names.iter().enumerate() {
-        text.push_str(if place == 0 { ", meets " } else { ", " })?;
-        match *name {
-            Name::Line(number, _) => write!(text, "line {number}")?,
-            Name::Job(identifier) => {
-                text.push_str("job ")?;
-                push_cut(text, identifier, TOLD_CELLS)?;
-            }
+/// Adds `line 5`, the place that the line of a gathered table comes from, or `job cron.weekly`; the end
+/// of a place and the beginning of an identifier, so many cells of them at most.
+pub(crate) fn push_name(text: &mut String, row: &Row<'_>, cells: usize) -> Result<(), AllocError> {
+    match (row.name, row.origin) {
+        (Name::Job(identifier), _) => {
+            text.push_str("job ")?;
+            push_cut(text, identifier, cells)
         }
+        (_, Some(place)) => push_end(text, place.origin.as_slice(), cells),
+        (Name::Line(number, _), None) => write!(text, "line {number}"),
+    }
+}
+
+/// Adds the name and, behind that of a line, what it runs, as far as there is room for them in front of
+/// the bars: `line 5 /usr/bin/backup` or `job cron.weekly`.
+fn push_row_name(text: &mut String, row: &Row<'_>) -> Result<(), AllocError> {
+    let start = text.len();
+    let Name::Line(_, command) = row.name else {
+        return push_name(text, row, NAME_CELLS - 4);
+    };
+    push_name(text, row, PLACE_CELLS)?;
+    text.push_str(" ")?;
+    let left = NAME_CELLS.saturating_sub(text.len().saturating_sub(start));
+    push_cut(text, work_of(command), left)
+}
+
+/// Adds which jobs it meets, and when: `, meets line 5 first on 2024-09-13 Fri 01:30, job ..`.
+fn push_met(text: &mut String, meeting: &Meeting<'_>, span: DaySpan) -> Result<(), AllocError> {
+    let mut start = ", meets ";
+    for (row, first) in meeting.others.as_slice() {
+        text.push_str(start)?;
+        push_name(text, row, TOLD_CELLS)?;
+        text.push_str(" first on ")?;
+        push_minute(text, span, *first)?;
+        start = ", ";
     }
     Ok(())
-}
-
-/// What a mode says of a job.
-fn mode_text(mode: Mode) -> &'static str {
-    match mode {
-        Mode::Plain => "",
-        Mode::Skip => ", skips where its lock is held",
-        Mode::Try => ", may be skipped where its lock is held",
-        Mode::Wait => ", waits for its lock",
-        Mode::Shared => ", shares its lock",
-    }
 }
 
 /// Adds what a reader is told who points at the row: the name of the job, and where its line comes from,
@@ -91,10 +79,16 @@ fn mode_text(mode: Mode) -> &'static str {
 /// what is declared of it.
 fn push_told(text: &mut String, row: &Row<'_>, beside: &Beside<'_>) -> Result<(), AllocError> {
     let words = match row.name {
-        Name::Line(_, command) => command,
-        Name::Job(identifier) => identifier,
+        Name::Line(number, command) => {
+            write!(text, "line {number} ")?;
+            command
+        }
+        Name::Job(identifier) => {
+            text.push_str("job ")?;
+            identifier
+        }
     };
-    push_words(text, row.name, words, TOLD_CELLS)?;
+    push_cut(text, words, TOLD_CELLS)?;
     if let Some(origin) = row.origin {
         text.push_str(" from ")?;
         push_cut(text, origin.origin.as_slice(), TOLD_CELLS)?;
@@ -111,10 +105,16 @@ fn push_told(text: &mut String, row: &Row<'_>, beside: &Beside<'_>) -> Result<()
             text.push_str(", group ")?;
             push_cut(text, group.name(), TOLD_CELLS)?;
         }
-        text.push_str(mode_text(job.mode))?;
+        text.push_str(match job.mode {
+            Mode::Plain => "",
+            Mode::Skip => ", skips where its lock is held",
+            Mode::Try => ", may be skipped where its lock is held",
+            Mode::Wait => ", waits for its lock",
+            Mode::Shared => ", shares its lock",
+        })?;
     }
     match beside.meeting {
-        Some(meeting) => push_met_names(text, meeting.names.as_slice()),
+        Some(meeting) => push_met(text, meeting, beside.span),
         None => Ok(()),
     }
 }
@@ -129,12 +129,22 @@ fn push_ends(text: &mut String, span: DaySpan, bars: &[Bar]) -> Result<(), Alloc
         "<path class=\"due\" stroke=\"#000\" stroke-width=\"{width}\" d=\""
     )?;
     for bar in bars {
-        let from = bar.from;
-        let to = bar.to;
+        let (from, to) = (bar.from, bar.to);
         write!(text, "M{from} 1v16")?;
         if from < to {
             write!(text, "M{to} 1v16")?;
         }
+    }
+    text.push_str("\"/>")
+}
+
+/// Adds a triangle above the beginning of each bar.
+fn push_triangles(text: &mut String, span: DaySpan, bars: &[Bar]) -> Result<(), AllocError> {
+    let half = 9 * u32::from(span.days());
+    text.push_str("<path class=\"mark\" d=\"")?;
+    for bar in bars {
+        let from = bar.from;
+        write!(text, "M{from} 8l-{half} -8h{}z", 2 * half)?;
     }
     text.push_str("\"/>")
 }
@@ -156,6 +166,7 @@ fn push_over(
             found.meets = true;
             let start = "<path class=\"meets\" stroke=\"#D55E00\" stroke-width=\"10\" d=\"";
             push_stretches(text, start, meeting.bars.as_slice())?;
+            push_triangles(text, span, meeting.bars.as_slice())?;
         }
     }
     let Occupied::Cron { schedule, reach: _ } = occupied else {
@@ -228,8 +239,9 @@ pub(crate) fn row_text(
     let y = beside.top.saturating_add(13);
     let mut text = String::from_str(alloc, "<g class=\"row\"><title>")?;
     push_told(&mut text, row, beside)?;
-    text.push_str("</title>\n")?;
-    push_name(&mut text, row.name, y)?;
+    write!(text, "</title>\n<text x=\"{MARGIN}\" y=\"{y}\">")?;
+    push_row_name(&mut text, row)?;
+    text.push_str("</text>\n")?;
     push_plot(alloc, &mut text, row, beside, found)?;
     let mut behind = String::new(alloc);
     if let Some(job) = row.declared {

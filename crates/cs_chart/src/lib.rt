@@ -5,6 +5,7 @@
 mod answer;
 mod axis;
 mod bar;
+mod guard;
 mod heading;
 mod job;
 mod load;

@@ -1,13 +1,19 @@
 //! The load: what the jobs that may run weigh together, minute by minute.
 use crate::axis::push_grid;
-use crate::bar::Bar;
+use crate::bar::{Bar, bars_of};
+use crate::job::{PLACE_CELLS, push_name};
+use crate::row::Row;
 use crate::sheet::{MARGIN, PLOT_LEFT, PLOT_WIDTH, Sheet, begin_plot};
 use crate::span::DaySpan;
-use std::alloc::AllocError;
+use crate::text::push_minute;
+use std::alloc::{AllocError, Global};
 use std::fmt::Write;
 
 /// How high the part of the load is.
 const HEIGHT: u32 = 100;
+
+/// How many jobs are named that make the highest load.
+const MOST_JOBS: usize = 6;
 
 /// What is found while rows are drawn.
 #[derive(Drop)]
@@ -60,6 +66,60 @@ fn push_area(
     write!(text, "H{end}V{foot}z\"/>")
 }
 
+/// The highest load, and the first minute that has it.
+fn peak_of(loads: &[u32]) -> (u32, u32) {
+    let (mut most, mut first) = (0, 0);
+    for (minute, load) in loads.iter().enumerate() {
+        if most < *load {
+            most = *load;
+            first = u32::try_from(minute).unwrap_or(0);
+        }
+    }
+    (most, first)
+}
+
+/// Whether windows of a row hold the minute.
+fn is_over(alloc: Global, span: DaySpan, row: &Row<'_>, minute: u32) -> Result<bool, AllocError> {
+    let Some(occupied) = row.occupied else {
+        return Ok(false);
+    };
+    let bars = bars_of(alloc, occupied, span)?;
+    Ok(bars.iter().any(|bar| bar.from <= minute && minute < bar.to))
+}
+
+/// Adds the highest load, if there is any: when it is first, and which jobs make it.
+pub(crate) fn push_peak(
+    alloc: Global,
+    sheet: &mut Sheet,
+    span: DaySpan,
+    loads: &[u32],
+    rows: &[Row<'_>],
+) -> Result<(), AllocError> {
+    let (most, first) = peak_of(loads);
+    if most == 0 {
+        return Ok(());
+    }
+    let mut note = format!(in alloc; "highest load: {most}, first on ")?;
+    push_minute(&mut note, span, first)?;
+    let mut count = 0usize;
+    for row in rows {
+        if is_over(alloc, span, row, first)? {
+            if count < MOST_JOBS {
+                note.push_str(if count == 0 { ", by " } else { ", " })?;
+                push_name(&mut note, row, PLACE_CELLS)?;
+            }
+            count = count.saturating_add(1);
+        }
+    }
+    if MOST_JOBS < count {
+        let more = count - MOST_JOBS;
+        write!(note, " and {more} more")?;
+    }
+    sheet.push_line(12, note.as_str())?;
+    sheet.down(15);
+    Ok(())
+}
+
 /// Adds the load with the line of the capacity, what is above it in another colour, and goes below.
 pub(crate) fn push_load(
     sheet: &mut Sheet,
@@ -68,10 +128,7 @@ pub(crate) fn push_load(
     capacity: u8,
 ) -> Result<(), AllocError> {
     let floor = u32::from(capacity);
-    let mut most = 0;
-    for load in loads {
-        most = most.max(*load);
-    }
+    let (most, _) = peak_of(loads);
     let highest = most.max(floor).max(1);
     let top = highest.saturating_add(highest / 8).saturating_add(1);
     let up = u64::from(HEIGHT) * u64::from(capacity) / u64::from(top);

@@ -11,8 +11,8 @@ use std::alloc::{AllocError, Global};
 pub(crate) struct Meeting<'a> {
     /// The minutes that windows of others hold with its own.
     pub(crate) bars: Vec<Bar>,
-    /// The names of the others.
-    pub(crate) names: Vec<Name<'a>>,
+    /// The others, each with the first minute of the picture that windows of both hold.
+    pub(crate) others: Vec<(Row<'a>, u32)>,
 }
 
 /// A row, and the minutes that its windows hold, a bit each.
@@ -48,12 +48,10 @@ fn mark(marks: &mut [u64], bar: Bar) {
 
 /// The minutes of the picture that the windows of a row hold; none where its group isn't exclusive.
 fn held_minutes(alloc: Global, row: &Row<'_>, span: DaySpan) -> Result<Vec<u64>, AllocError> {
-    let (Some(declared), Some(occupied)) = (row.declared, row.occupied) else {
-        return Ok(Vec::new(alloc));
+    let occupied = match (row.declared, row.occupied) {
+        (Some(declared), Some(occupied)) if declared.is_exclusive => occupied,
+        _ => return Ok(Vec::new(alloc)),
     };
-    if !declared.is_exclusive {
-        return Ok(Vec::new(alloc));
-    }
     let mut marks = vec![in alloc; 0; span.minutes().div_ceil(64) as usize]?;
     let bars = bars_of(alloc, occupied, span)?;
     for bar in bars.as_slice() {
@@ -62,17 +60,20 @@ fn held_minutes(alloc: Global, row: &Row<'_>, span: DaySpan) -> Result<Vec<u64>,
     Ok(marks)
 }
 
-/// Marks the minutes that both have, 64 at a time, and tells whether there are any.
-fn mark_common(marks: &mut [u64], one: &[u64], other: &[u64]) -> bool {
-    let mut is_found = false;
+/// Marks the minutes that both have, 64 at a time, and returns the first.
+fn mark_common(marks: &mut [u64], one: &[u64], other: &[u64]) -> Option<u32> {
+    let mut first = None;
     for (place, word) in marks.iter_mut().enumerate() {
         if let (Some(one), Some(other)) = (one.get(place), other.get(place)) {
             let both = *one & *other;
             *word |= both;
-            is_found = is_found || both != 0;
+            if both != 0 && first.is_none() {
+                let start = u32::try_from(place).unwrap_or(0).saturating_mul(64);
+                first = Some(start.saturating_add(both.trailing_zeros()));
+            }
         }
     }
-    is_found
+    first
 }
 
 /// The bars of the marked minutes.
@@ -102,21 +103,18 @@ fn meeting_of<'a>(
 {
     let own = &holders[place];
     let mut marks = vec![in alloc; 0; own.held.len()]?;
-    let mut names = Vec::new(alloc);
+    let mut others = Vec::new(alloc);
     for (at, other) in holders.iter().enumerate() {
-        if at != place
-            && clash(&own.row, &other.row)
-            && mark_common(
-                marks.as_mut_slice(),
-                own.held.as_slice(),
-                other.held.as_slice(),
-            )
-        {
-            names.push(other.row.name)?;
+        if at == place || !clash(&own.row, &other.row) {
+            continue;
+        }
+        let (held, also) = (own.held.as_slice(), other.held.as_slice());
+        if let Some(first) = mark_common(marks.as_mut_slice(), held, also) {
+            others.push((other.row, first))?;
         }
     }
     let bars = bars_of_marks(alloc, marks.as_slice())?;
-    Ok(Meeting { bars, names })
+    Ok(Meeting { bars, others })
 }
 
 /// What the windows of each row meet, in the order of rows. The only error is want of memory.

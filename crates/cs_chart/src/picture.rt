@@ -5,7 +5,7 @@ ghost use Rattle.cs_chart.specs.Chart.{IsPictureOf, shown_of};
 use crate::axis::{hours_above, push_axis, push_grid, push_hours};
 use crate::heading::{push_groups, push_key};
 use crate::job::{Beside, row_text};
-use crate::load::{Found, push_load};
+use crate::load::{Found, push_load, push_peak};
 use crate::meeting::Meeting;
 use crate::row::Row;
 use crate::sheet::{HOURS, MARGIN, ROW, ROWS_OF_HOURS, Sheet};
@@ -81,8 +81,8 @@ fn push_notes(
         "left out: due minutes less than {due} min behind the one before, and gaps of less than \
          {gap} min between bars"
     )?;
-    let red = "red: a window of another job of its exclusive group holds the minute, and not both \
-               take the group's lock";
+    let red = "a triangle, and red from there on: a window of another job of its exclusive group \
+               holds the minute, and not both take the group's lock";
     let waits = "a run that waits for its lock may go on later than its bar shows";
     let is_cut = scene.span.days() < scene.days.min(MOST_DAYS);
     for (is_told, note) in [
@@ -138,32 +138,17 @@ fn push_foot(
         sheet.down(HOURS);
     }
     sheet.down(6);
+    push_peak(alloc, sheet, scene.span, found.loads.as_slice(), scene.rows)?;
     push_notes(alloc, sheet, scene, found)?;
     sheet.text.push_str("</svg>\n")
-}
-
-/// The head of the file of a picture so high: wider where names of groups stand behind the days.
-fn file_text(alloc: Global, scene: &Scene<'_>, height: u32) -> Result<String, AllocError> {
-    let title = scene.title;
-    let width = match scene.plan {
-        Some(plan) if !plan.groups().is_empty() => 1_220,
-        _ => 1_120,
-    };
-    format!(in alloc;
-        "<?xml version=\"1.0\" encoding=\"UTF-8\"?>\n\
-         <svg xmlns=\"http://www.w3.org/2000/svg\" width=\"{width}\" height=\"{height}\" \
-         viewBox=\"0 0 {width} {height}\" font-family=\"sans-serif\" font-size=\"11\">\n\
-         <title>{title}</title>\n\
-         <rect width=\"{width}\" height=\"{height}\" fill=\"#FFF\"/>\n"
-    )
 }
 
 /// Draws a scene as an SVG document (SVG 1.1): a row for each command line and each anacron job, with bars
 /// over the minutes in which its runs may go on and marks at its due minutes.
 ///
-/// A row is named by the number of its line and the beginning of its command, or by the identifier of
-/// its anacron job, and tells who points at it where a line of a gathered table comes from; what is no
-/// UTF-8 and what may not stand in XML shows as U+FFFD. Where due minutes or bars are nearer than the
+/// A row is named by the number or the place of its line and by what that runs, or by the identifier of
+/// its anacron job, and shows the whole command to who points at it; what is no UTF-8 and what may not
+/// stand in XML shows as U+FFFD. Where due minutes or bars are nearer than the
 /// picture can show, they are drawn as one, and a line at the foot says so. With declarations each job has
 /// its own longest time, its group has a colour, and below the rows is the load of each minute, the
 /// weights of the jobs of which a window holds it, beside the capacity. A run that waits for its lock may
@@ -189,7 +174,19 @@ pub(crate) fn draw(alloc: Global, scene: &Scene<'_>) -> Result<String, AllocErro
         y: head.y.saturating_add(rows_height(scene.rows.len())),
     };
     push_foot(alloc, &mut foot, scene, &found)?;
-    let mut svg = file_text(alloc, scene, foot.below(10))?;
+    // wider where names of groups stand behind the days
+    let width = match scene.plan {
+        Some(plan) if !plan.groups().is_empty() => 1_220,
+        _ => 1_120,
+    };
+    let (title, height) = (scene.title, foot.below(10));
+    let mut svg = format!(in alloc;
+        "<?xml version=\"1.0\" encoding=\"UTF-8\"?>\n\
+         <svg xmlns=\"http://www.w3.org/2000/svg\" width=\"{width}\" height=\"{height}\" \
+         viewBox=\"0 0 {width} {height}\" font-family=\"sans-serif\" font-size=\"11\">\n\
+         <title>{title}</title>\n\
+         <rect width=\"{width}\" height=\"{height}\" fill=\"#FFF\"/>\n"
+    )?;
     svg.push_str(head.text.as_str())?;
     svg.push_str(rows.as_str())?;
     svg.push_str(foot.text.as_str())?;

@@ -1,6 +1,7 @@
 //! Texts of a picture: escaped, and cut to fit.
+use crate::span::DaySpan;
 use bstr::ByteSlice;
-use cs_civil::{Day, day_text, kind_of, weekday_name};
+use cs_civil::{Day, MINUTES_OF_DAY, day_text, kind_of, weekday_name};
 use std::alloc::AllocError;
 use std::fmt::Write;
 use unicode_width::UnicodeWidthChar;
@@ -66,11 +67,41 @@ pub(crate) fn push_cut(text: &mut String, bytes: &[u8], cells: usize) -> Result<
     Ok(())
 }
 
+/// The longest end of a text that takes so many cells at most.
+fn end_of(bytes: &[u8], cells: usize) -> &[u8] {
+    for (at, first) in bytes.iter().enumerate() {
+        let rest = &bytes[at.min(bytes.len())..];
+        let is_first_byte = *first & 0xC0 != 0x80;
+        if is_first_byte && fits(rest, cells) {
+            return rest;
+        }
+    }
+    &[]
+}
+
+/// Adds the end of a text, so many cells of it at most: there names of files differ.
+pub(crate) fn push_end(text: &mut String, bytes: &[u8], cells: usize) -> Result<(), AllocError> {
+    if fits(bytes, cells) {
+        return push_cut(text, bytes, cells);
+    }
+    text.push_str("…")?;
+    let left = cells.saturating_sub(1);
+    push_cut(text, end_of(bytes, left), left)
+}
+
 /// Adds `YYYY-MM-DD Fri`.
 pub(crate) fn push_day(text: &mut String, day: Day) -> Result<(), AllocError> {
     push_cut(text, day_text(day).as_slice(), 10)?;
     text.push_str(" ")?;
     push_cut(text, weekday_name(kind_of(day).dow()).as_bytes(), 3)
+}
+
+/// Adds a minute of the picture: `YYYY-MM-DD Fri 01:30`.
+pub(crate) fn push_minute(text: &mut String, span: DaySpan, minute: u32) -> Result<(), AllocError> {
+    let place = u8::try_from(minute / u32::from(MINUTES_OF_DAY)).unwrap_or(0);
+    push_day(text, span.day(place.min(span.days() - 1)))?;
+    let (hour, minute) = (minute / 60 % 24, minute % 60);
+    write!(text, " {hour:02}:{minute:02}")
 }
 
 /// Adds the name of a group or what a row says, so far from the left and from the top.
@@ -81,6 +112,6 @@ pub(crate) fn push_label(
     label: &[u8],
 ) -> Result<(), AllocError> {
     write!(text, "<text x=\"{x}\" y=\"{y}\">")?;
-    push_cut(text, label, LABEL_CELLS)?;
+    push_end(text, label, LABEL_CELLS)?;
     text.push_str("</text>\n")
 }

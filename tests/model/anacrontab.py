@@ -14,7 +14,6 @@ WORDS = {b"@daily": 1, b"@weekly": 7, b"@monthly": MONTHLY}
 # The period is a number of days, or MONTHLY.
 Job = namedtuple("Job", "line period delay identifier command environment")
 Anacrontab = namedtuple("Anacrontab", "settings jobs")
-NONE = Anacrontab([], [])
 
 
 def number_from(least, text, fault):

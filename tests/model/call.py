@@ -10,7 +10,7 @@ from itertools import takewhile
 
 from harness import NO_CONFLICT
 from model import calendar, certificate, crontab, rules, script
-from model.anacrontab import NONE, read_anacrontab
+from model.anacrontab import read_anacrontab
 from model.calendar import DAY
 from model.day import day_answer
 from model.declarations import GREATEST_MAX, lines_named, plain_plan, read_declared, read_plan
@@ -66,18 +66,10 @@ JOBS_HINT = b"cronsafe: the table reads as an anacrontab: give it with --anacron
 # What follows a longest time and hours that are words of the call.
 MAX_HINT = b"cronsafe: the longest time is from 1 to 4320 minutes\n"
 HOURS_HINT = b"cronsafe: --from is from 0 on and below --to, which is at most 1440\n"
-# What follows a fault of declarations whose line and column only `lint` tells.
-LINT_HINT = b"cronsafe: cronsafe lint TABLE DECLS tells where\n"
 
 
 class Unread(Exception):
     """A path can't be read, and why."""
-
-
-def hint_of(fault):
-    """Returns what follows a fault of declarations that doesn't tell a line or a job of a table."""
-    is_told = fault.of != "declarations" or fault.place.startswith((b"line ", b"job "))
-    return b"" if is_told else LINT_HINT
 
 
 def has_jobs(text):
@@ -132,10 +124,8 @@ PART = re.compile(rb"#@ part [A-Za-z0-9_-]+")
 NAMED = re.compile(rb"\bline (\d+)\b")
 # What a certificate of other tables or declarations is refused with, and what is told of that.
 STALE = (b"refused 1 ", b"refused 2 ", b"refused 5 ")
-STALE_NOTE = (
-    b"note: the tables or declarations may have changed since the certificate was made: "
-    b"cronsafe make TABLE DECLS makes a new one\n"
-)
+STALE_NOTE = b"note: the tables or declarations may have changed since the certificate was made: "
+STALE_NOTE += b"cronsafe make TABLE DECLS makes a new one\n"
 
 
 def warnings_of_settings(table, of):
@@ -154,10 +144,8 @@ def notes_of(plan):
     """Returns what is told of a plan that is judged."""
     told = []
     if plan.doubled is not None:
-        name = plan.doubled.encode()
-        told.append(
-            b"warning: an object of the declarations has %s twice, and the last one counts\n" % name
-        )
+        twice = b"warning: an object of the declarations has %s twice, and the last one counts\n"
+        told.append(twice % plan.doubled.encode())
     if plan.untimed is not None:
         of_line = b"warning: another line has the command of line %d: " % plan.untimed
         told.append(of_line + b'add "when" to its entry, as cronsafe draft does\n')
@@ -228,9 +216,8 @@ class Call:
     def read_tables(self, found):
         """Reads both tables, and warns of them once both were read well."""
         table = self.crontab_of(self.bytes_of(found["TABLE"]))
-        jobs = NONE
-        if "ANACRONTAB" in found:
-            jobs = read_anacrontab(self.bytes_of(found["ANACRONTAB"]))
+        path = found.get("ANACRONTAB")
+        jobs = read_anacrontab(b"" if path is None else self.bytes_of(path))
         self.warned = warnings_of(table, jobs)
         return table, jobs
 
@@ -322,7 +309,7 @@ class Call:
             return Answer(status, out, self.warned)
         except Fault as fault:
             told = b"cronsafe: %s\n" % fault.text()
-            return Answer(3, b"", self.warned + told + (self.hint or hint_of(fault)))
+            return Answer(3, b"", self.warned + told + self.hint)
         except Unread as unread:
             told = b"cronsafe: can't read %s: %s\n" % unread.args
             return Answer(6, b"", self.warned + told)

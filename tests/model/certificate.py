@@ -169,9 +169,8 @@ def has_bad_entry(it):
     values = [value for _, found in it.classes for _, pieces in found for _, value in pieces]
     reaches = [reach for _, reach in it.reach]
     is_due_at_none = any(not minutes for due, _ in it.classes for _, minutes in due)
-    if is_due_at_none or not are_within(values, 1, GREATEST_VALUE):
-        return True
-    if not are_within(reaches, 1, GREATEST_REACH[it.version]):
+    is_valued_well = not is_due_at_none and are_within(values, 1, GREATEST_VALUE)
+    if not is_valued_well or not are_within(reaches, 1, GREATEST_REACH[it.version]):
         return True
     return not all(
         0 <= job < JOBS and 0 <= back <= DAYS_BACK[it.version] and 0 <= minute < DAY

@@ -24,7 +24,7 @@ sys.dont_write_bytecode = True
 sys.path[0] += "/.."
 
 from cases import cases_of  # noqa: E402
-from harness import Fault, count, end_with, words_of  # noqa: E402
+from harness import Fault, count, end_with, without_shown, words_of  # noqa: E402
 from model.call import CALLS, Answer, agrees, answer_of, as_read, asks_help  # noqa: E402
 from model.call import words_of_check  # noqa: E402
 
@@ -54,7 +54,10 @@ def is_met(wanted, got):
 
 
 def look_at_reading(case):
-    wanted = Answer(case.status, case.stdout, as_read(case.stderr))
+    err = case.stderr
+    if b": fault: " in err:
+        err = without_shown(err, lambda it: case.files.get(it, case.stdin), True)
+    wanted = Answer(case.status, case.stdout, as_read(err))
     got = answer_of(case.words, case.files, case.stdin, is_judged=False)
     if not is_met(wanted, got):
         raise Fault(f"\n  wanted: {wanted}\n  read:   {got}")

@@ -15,15 +15,9 @@ MOST_BYTES_OF_A_LINE = 4_096
 MOST_COMMANDS = 256
 MONTHS = b"jan feb mar apr may jun jul aug sep oct nov dec".split()
 WEEKDAYS = b"sun mon tue wed thu fri sat".split()
-WORDS = {
-    b"@yearly": b"0 0 1 1 *",
-    b"@annually": b"0 0 1 1 *",
-    b"@monthly": b"0 0 1 * *",
-    b"@weekly": b"0 0 * * 0",
-    b"@daily": b"0 0 * * *",
-    b"@midnight": b"0 0 * * *",
-    b"@hourly": b"0 * * * *",
-}
+WORDS = {b"@yearly": b"0 0 1 1 *", b"@annually": b"0 0 1 1 *", b"@monthly": b"0 0 1 * *"}
+WORDS |= {b"@weekly": b"0 0 * * 0", b"@daily": b"0 0 * * *", b"@midnight": b"0 0 * * *"}
+WORDS |= {b"@hourly": b"0 * * * *"}
 
 # A field's range, and the numbers that names stand for in it.
 Field = namedtuple("Field", "first last names")

@@ -2,7 +2,7 @@
 import functools
 from collections import namedtuple
 
-from model.anacrontab import NONE, read_anacrontab
+from model.anacrontab import read_anacrontab
 from model.calendar import DAY, KINDS, is_day_due, minutes_of
 from model.crontab import Command, read_crontab
 from model.faults import Fault
@@ -33,12 +33,9 @@ Part = namedtuple("Part", "name max")
 # Tables without the lines that are left out, whose numbers rise; the jobs of a plan, of which so
 # many have the default, are those of the crontab first; a member that an object has twice; how many
 # entries are a guess; the first line whose command others have too, and whose entry tells no schedule.
-Plan = namedtuple(
-    "Plan",
-    "crontab anacrontab jobs groups capacity hours pass_minute offset left_out defaulted doubled"
-    " guessed untimed",
-    defaults=[[], 0, None, 0, None],
-)
+PLAN = "crontab anacrontab jobs groups capacity hours pass_minute offset"
+PLAN += " left_out defaulted doubled guessed untimed"
+Plan = namedtuple("Plan", PLAN, defaults=[[], 0, None, 0, None])
 
 
 class Job:
@@ -346,7 +343,5 @@ def plain_plan(longest, crontab, anacrontab):
 
 def plan_of(files):
     """Returns the plan of the bytes of tables and declarations, by their names as bytes."""
-    anacrontab = NONE
-    if b"anacrontab" in files:
-        anacrontab = read_anacrontab(files[b"anacrontab"])
+    anacrontab = read_anacrontab(files.get(b"anacrontab", b""))
     return read_plan(files[b"declarations"], read_crontab(files[b"crontab"]), anacrontab)

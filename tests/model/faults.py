@@ -4,8 +4,6 @@ NAMES = {
     "date": "NotADate OutOfRange",
     "crontab": "TooLong NulByte BadSetting UnknownWord MissingField BadNumber OutOfField Reversed"
     " BadStep StepOnNumber NoCommand TooManyJobs",
-    "system": "TooLong NulByte BadSetting UnknownWord MissingField BadNumber OutOfField Reversed"
-    " BadStep StepOnNumber NoCommand TooManyJobs BadUser",
     "anacrontab": "TooLong NulByte BadSetting UnknownWord MissingField BadPeriod BadDelay"
     " BadIdentifier TwiceNamed Continued TooManyJobs",
     "declarations": "NotJson BadShape NoSuchLine Undeclared TwiceDeclared BadMax BadWeight"
@@ -15,6 +13,7 @@ NAMES = {
     " TooManyClasses LeafTooLong",
     "script": "TooLong BadLine BadDate UnknownName NoStart",
 }
+NAMES["system"] = NAMES["crontab"] + " BadUser"
 
 
 class Fault(Exception):

@@ -87,18 +87,13 @@ class Members(list):
     """The members of an object, as pairs of a name and a value, in the order of the text."""
 
 
-def first_repeated(names):
-    """Returns the first of the names that one before it is, or None."""
-    return next((it for at, it in enumerate(names) if it in names[:at]), None)
-
-
 def repeated_in(value):
     """Returns the first name that stands twice in an object: its own before those in its values."""
-    own, values = None, value if isinstance(value, list) else []
+    names, values = (), value if isinstance(value, list) else ()
     if isinstance(value, Members):
-        own, values = first_repeated([name for name, _ in value]), [it for _, it in value]
-    found = (own, *map(repeated_in, values)) if own is None else (own,)
-    return next((it for it in found if it is not None), None)
+        names, values = zip(*value) if value else ((), ())
+    own = [it for at, it in enumerate(names) if it in names[:at]]
+    return next((it for it in (*own, *map(repeated_in, values)) if it is not None), None)
 
 
 def doubled_member(data):

@@ -8,25 +8,10 @@ from model.faults import Fault
 
 MOST_BYTES = 16_777_216
 # The forms of a line, whose first word is its kind; a name in capitals takes other words.
-FORMS = (
-    "start TIME WAY",
-    "stamp ID DAY",
-    "minute TIME",
-    "up TIME",
-    "down",
-    "begin line N",
-    "got line N TIME",
-    "catch ID",
-    "end line N TIME",
-    "end job ID TIME",
-)
-ANY = {
-    "TIME": "(?P<time>[^ ]+ [^ ]+)",
-    "DAY": "(?P<day>[^ ]+)",
-    "ID": "(?P<id>[^ ]+)",
-    "WAY": "(?P<way>up|down)",
-    "N": "0*(?P<n>[0-9]+)",
-}
+FORMS = ("start TIME WAY", "stamp ID DAY", "minute TIME", "up TIME", "down", "begin line N")
+FORMS += ("got line N TIME", "catch ID", "end line N TIME", "end job ID TIME")
+ANY = {"TIME": "(?P<time>[^ ]+ [^ ]+)", "DAY": "(?P<day>[^ ]+)", "ID": "(?P<id>[^ ]+)"}
+ANY |= {"WAY": "(?P<way>up|down)", "N": "0*(?P<n>[0-9]+)"}
 PATTERNS = [re.compile(re.sub("[A-Z]+", lambda it: ANY[it[0]], f).encode(), re.S) for f in FORMS]
 
 # An event with the number of its line; job and minute are none where it has none.

@@ -12,20 +12,11 @@ from hostile_calls.calls import call_of
 SUBCOMMANDS = ("day", "check", "judge", "make", "replay")
 OF_CERTIFICATES = ("check", "make", "running")
 # The kinds of inputs by what the words of a call name them.
-KINDS = {
-    "TABLE": b"crontab",
-    "ANACRONTAB": b"anacrontab",
-    "SCRIPT": b"script",
-    "DECLS": b"declarations",
-    "DECLARATIONS": b"declarations",
-}
+KINDS = {"TABLE": b"crontab", "ANACRONTAB": b"anacrontab", "SCRIPT": b"script"}
+KINDS |= {"DECLS": b"declarations", "DECLARATIONS": b"declarations"}
 # What each kind of input is read after.
-BEFORE = {
-    b"crontab": (),
-    b"anacrontab": (),
-    b"declarations": (b"crontab", b"anacrontab"),
-    b"script": (b"crontab", b"anacrontab", b"declarations"),
-}
+BEFORE = {b"crontab": (), b"anacrontab": (), b"declarations": (b"crontab", b"anacrontab")}
+BEFORE |= {b"script": (b"crontab", b"anacrontab", b"declarations")}
 # Of a longer input as many prefixes are taken, by the seed.
 LONG, PREFIXES_OF_A_LONG_ONE = 600, 100
 LONG_CERTIFICATE, PREFIXES_OF_A_LONG_CERTIFICATE = 122, 6

@@ -1,5 +1,5 @@
 -- What is answered to `gather`.
-use Rattle.std.proofs.Common.{◌≡◌, ◌<◌, ◌≤◌, ◌∙◌, ℕ, true, List, [], ◌∷◌, ◌++◌, Option, Some, None, IfSome, IfErr, IfOk, Ok, Err, Result, ap, arith, inl, inr, length, map, option_map, refl, string_bytes, subst, sym, append_assoc}
+use Rattle.std.proofs.Common.{◌≡◌, ◌⊎◌, ◌<◌, ◌≤◌, ◌∙◌, if◌then◌else◌, ℕ, Bool, true, false, IsSome, List, [], ◌∷◌, ◌++◌, Option, Some, None, IfSome, IfErr, IfOk, Ok, Err, Result, ap, arith, inl, inr, length, map, option_map, refl, string_bytes, subst, true≢false, sym, append_assoc}
 use Rattle.std.specs.List.{AllZip}
 use Rattle.std.specs.Result.{IsErrAnd}
 use Rattle.std.proofs.lemmas.List.{map-append}
@@ -25,11 +25,10 @@ use Rattle.cs_files.proofs.TurnLemmas.{some_read, then_read}
 use Rattle.cs_gather.specs.Tables.{AreNamed, Given, IsUserFile, system_table}
 use Rattle.cs_gather.specs.Gather.{Denotes, HasFault}
 use Rattle.cs_gather.specs.Gathered.{commands_of}
-use Rattle.cs_gather.specs.Answer.{Adds, AddsText, EndsFor, FaultsText, ShowsGathered, Stops}
+use Rattle.cs_gather.specs.Answer.{Adds, AddsText, EndsFor, FaultsText, IsPassedOver, ShowsGathered, Stops, Sum}
 use Rattle.cs_gather.specs.Listing.{AreSomeRead, IsUnlisted, unlisted_trouble}
 use Rattle.cs_gather.specs.declared.below.Unlisted.{Unlisted}
 use Rattle.cs_gather.specs.declared.below.Unlisted.TheVariants.{CannotRead, OutOfMemory as NoMemory}
-use Rattle.cs_gather.specs.declared.line.Gathered.{Gathered}
 use Rattle.cs_gather.specs.declared.table.Table.{Table}
 use Rattle.cs_gather.specs.declared.table.Table.TheVariants.{System, User}
 
@@ -48,13 +47,25 @@ by_file P None rest bytes so is up = tt
 by_file P (Some text) rest bytes so is up = so text (subst (λ (o : Option (List ℕ)). IfSome o (λ t. IsUpTo MAX_TABLE t bytes)) is up)
 
 -- what the bytes add the file adds
-pub adds_read : (files left : List ℕ → Option (List ℕ)) (given : Given) (bytes : List ℕ) (table : Table) (old more : List Gathered)
-    → IsFresh files left → IsRead MAX_TABLE given.path left bytes → Denotes given.user bytes table → more ≡ old ++ commands_of given table → Adds files given old more
-adds_read files left given bytes table old more fresh read is adds = by_file (AddsText given old more) (files given.path) (left given.path) bytes same (fresh given.path) read
+pub adds_read : (files left : List ℕ → Option (List ℕ)) (given : Given) (bytes : List ℕ) (table : Table) (old more : Sum)
+    → IsFresh files left → IsRead MAX_TABLE given.path left bytes → Denotes given.user bytes table → more.commands ≡ old.commands ++ commands_of given table → more.is_whole ≡ old.is_whole → Adds files given old more
+adds_read files left given bytes table old more fresh read is adds stays = by_file (λ text. AddsText given old more text ⊎ IsPassedOver given old more text) (files given.path) (left given.path) bytes same (fresh given.path) read
   where
-    same : (text : List ℕ) → IsUpTo MAX_TABLE text bytes → AddsText given old more text
-    same text (inl e) = (table, subst (λ (b : List ℕ). Denotes given.user b table) e is, adds)
+    same : (text : List ℕ) → IsUpTo MAX_TABLE text bytes → AddsText given old more text ⊎ IsPassedOver given old more text
+    same text (inl e) = inl (table, subst (λ (b : List ℕ). Denotes given.user b table) e is, adds, stays)
     same text (inr (long, other)) = absurd (let short = is_short given.user bytes table is in omega (arith, short, long))
+
+-- a table with a fault that was read to its end is passed over
+pub passed_read : (files left : List ℕ → Option (List ℕ)) (given : Given) (bytes : List ℕ) (old more : Sum) (fault : TableFault SystemFault)
+    → IsFresh files left → IsRead MAX_TABLE given.path left bytes → IsSome given.below → length bytes ≤ MAX_TABLE → HasFault given.user bytes fault → IsSome (gathered_trouble given.path fault)
+    → more.commands ≡ old.commands → more.is_whole ≡ false → Adds files given old more
+passed_read files left given bytes old more OutOfMemory fresh read found short has some same gap = absurd (true≢false (sym some))
+passed_read files left given bytes old more (At line column size fault) fresh read found short has some same gap =
+    by_file (λ text. AddsText given old more text ⊎ IsPassedOver given old more text) (files given.path) (left given.path) bytes so (fresh given.path) read
+  where
+    so : (text : List ℕ) → IsUpTo MAX_TABLE text bytes → AddsText given old more text ⊎ IsPassedOver given old more text
+    so text (inl e) = inr (subst (IsPassedOver given old more) e (found, short, (record { line = line; column = column; size = size; fault = fault }, has), same, gap))
+    so text (inr (long, other)) = absurd (omega (arith, short, long))
 
 -- a fault of bytes is that of a text that is too long too
 same_fault : {Y F : Type 0} (kind : Kind Y F) (bytes text : List ℕ) (fault : TableFault F) → MAX_TABLE < length bytes → MAX_TABLE < length text → tables.IsFaultOf kind bytes fault → tables.IsFaultOf kind text fault
@@ -67,7 +78,7 @@ long_fault None bytes text fault long other is = same_fault system bytes text fa
 long_fault (Some user) bytes text fault long other (inner, is, same) = (inner, same_fault crontab bytes text inner long other is, same)
 
 -- a table with a fault stops the call
-pub stops_read : (files left : List ℕ → Option (List ℕ)) (failed : Failed) (given : Given) (bytes : List ℕ) (old : List Gathered) (fault : TableFault SystemFault)
+pub stops_read : (files left : List ℕ → Option (List ℕ)) (failed : Failed) (given : Given) (bytes : List ℕ) (old : Sum) (fault : TableFault SystemFault)
     → IsFresh files left → IsRead MAX_TABLE given.path left bytes → FaultsText given old fault bytes → IfSome (gathered_trouble given.path fault) (Stops files failed given old)
 stops_read files left failed given bytes old OutOfMemory fresh read faults = tt
 stops_read files left failed given bytes old (At line column size fault) fresh read faults =
@@ -78,11 +89,11 @@ stops_read files left failed given bytes old (At line column size fault) fresh r
 
     same : FaultsText given old at bytes → (text : List ℕ) → IsUpTo MAX_TABLE text bytes → FaultsText given old at text
     same so text (inl e) = subst (FaultsText given old at) e so
-    same (inl is) text (inr (long, other)) = inl (long_fault given.user bytes text at long other is)
+    same (inl (is, far)) text (inr (long, other)) = inl (long_fault given.user bytes text at long other is, λ found. other)
     same (inr (table, is, over)) text (inr (long, other)) = absurd (let short = is_short given.user bytes table is in omega (arith, short, long))
 
 -- and so does one that can't be read
-pub stops_unread : (files : List ℕ → Option (List ℕ)) (failed : Failed) (given : Given) (old : List Gathered) (e : Fault) → IsUnreadAt given.path failed e → IfSome (trouble e) (Stops files failed given old)
+pub stops_unread : (files : List ℕ → Option (List ℕ)) (failed : Failed) (given : Given) (old : Sum) (e : Fault) → IsUnreadAt given.path failed e → IfSome (trouble e) (Stops files failed given old)
 stops_unread files failed given old e = by_trouble (trouble e)
   where
     by_trouble : (o : Option Trouble) → IfSome o (λ t. (failed given.path ≡ true) × TellsPath given.path t) → IfSome o (Stops files failed given old)
@@ -93,6 +104,11 @@ stops_unread files failed given old e = by_trouble (trouble e)
 pub honest_gathered : (failed : Failed) (reads : Reads) (path : Text) (fault : TableFault SystemFault) → IfSome (gathered_trouble path fault) (λ t. trouble_status t ≡ 6 → (p : Text) × IsUnread p failed reads × TellsPath p t)
 honest_gathered failed reads path OutOfMemory = tt
 honest_gathered failed reads path (At line column size fault) = λ six. absurd (cc)
+
+-- what is answered of a fault is told
+pub is_told : (notes : List ℕ) (o : Option Trouble) (r : Ending) → option_map (ends notes) o ≡ Some r → IsSome o
+is_told notes None r is = absurd (cc)
+is_told notes (Some t) r is = refl
 
 -- ---- of tables in turn
 
@@ -107,9 +123,13 @@ ends_for P notes None r h is = absurd (cc)
 ends_for P notes (Some t) r h is = (t, h, (notes, sym (some_is (ends notes t) r is)))
 
 -- a gathered table, or one that isn't, is no failure of a device
-pub honest_shown : (failed : Failed) (reads : Reads) (commands : List Gathered) (r : Ending) → ShowsGathered commands r → IsHonest failed reads r
-honest_shown failed reads commands r (inl (done, gathers)) = λ six. absurd (let e = sym done ∙ six in cc)
-honest_shown failed reads commands r (inr (notes, is)) = λ six. absurd (let e = sym (ap (λ (x : Ending). x.status) is) ∙ six in cc)
+not_six : (b : Bool) (status : ℕ) → status ≡ (if b then 0 else 1) → status ≡ 6 → ⊥
+not_six true status is six = absurd (cc)
+not_six false status is six = absurd (cc)
+
+pub honest_shown : (failed : Failed) (reads : Reads) (sum : Sum) (r : Ending) → ShowsGathered sum r → IsHonest failed reads r
+honest_shown failed reads sum r (inl (done, gathers)) = λ six. absurd (not_six sum.is_whole r.status done six)
+honest_shown failed reads sum r (inr (notes, is)) = λ six. absurd (let e = sym (ap (λ (x : Ending). x.status) is) ∙ six in cc)
 
 pub err_so : {T E : Type 0} (P Q : E → Type 0) (r : Result T E) → ((e : E) → P e → Q e) → IsErrAnd r P → IfErr r Q
 err_so P Q (Ok x) so h = absurd h

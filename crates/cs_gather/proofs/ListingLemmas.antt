@@ -5,7 +5,7 @@ use Rattle.clap.specs.Words.{Text}
 use Rattle.cs_io.specs.Folders.{Tree}
 use Rattle.cs_io.specs.declared.folders.FileKind.{FileKind}
 use Rattle.cs_files.proofs.TroubleLemmas.{some_is}
-use Rattle.cs_gather.specs.Tables.{Given, IsBelow, IsFile, IsFileAt, IsIn, IsReadByCron, system_table, user_table}
+use Rattle.cs_gather.specs.Tables.{Given, IsBelow, IsFile, IsFileAt, IsIn, IsReadByCron, found_table}
 use Rattle.cs_gather.specs.Listing.{FindsAllOn, HasName, given_in, place_of}
 use Rattle.cs_gather.specs.declared.below.Shelf.{Shelf}
 use Rattle.cs_gather.specs.declared.below.Shelf.TheVariants.{CronD, Crontabs}
@@ -31,9 +31,9 @@ is_file tree path kind (known, is, file) same = subst IsFile (sym (subst (λ (o 
 -- a table in a folder of tables
 pub is_below : (shelf : Shelf) (front folder name path : Text) (given : Given) → HasName shelf name → folder ≡ front ++ place_of shelf → path ≡ folder ++ name → given ≡ given_in shelf path name → IsBelow front given
 is_below CronD front folder name path given signs at whole is =
-    inr (inl (name, signs, tt, is ∙ ap system_table (whole ∙ ap (λ (f : Text). f ++ name) at)))
+    inr (inl (name, signs, tt, is ∙ ap (λ (p : Text). found_table p (place_of CronD ++ name) None) (whole ∙ ap (λ (f : Text). f ++ name) at)))
 is_below Crontabs front folder name path given signs at whole is =
-    inr (inr (name, signs, tt, is ∙ ap (λ (p : Text). user_table p name) (whole ∙ ap (λ (f : Text). f ++ name) at)))
+    inr (inr (name, signs, tt, is ∙ ap (λ (p : Text). found_table p (place_of Crontabs ++ name) (Some name)) (whole ∙ ap (λ (f : Text). f ++ name) at)))
 
 -- a name that is known to be in a folder was listed
 pub is_listed : (tree : Tree) (folder name : Text) (names : List Text) → IfSome (tree.names folder) (λ known. Some names ≡ known) → IsIn tree folder name → Contains names name
@@ -51,7 +51,7 @@ no_file kind none (inr is) = cc
 
 -- what is found on each shelf, and the table of the machine, is all that cron(8) reads
 pub all_found : (tree : Tree) (front : Text) (found : List Given)
-    → (IsFileAt tree (front ++ codes "/etc/crontab") → Contains found (system_table (front ++ codes "/etc/crontab")))
+    → (IsFileAt tree (front ++ codes "/etc/crontab") → Contains found (found_table (front ++ codes "/etc/crontab") (codes "/etc/crontab") None))
     → FindsAllOn tree front CronD found → FindsAllOn tree front Crontabs found
     → (given : Given) → IsReadByCron tree front given → Contains found given
 all_found tree front found crontab system users given (file, inl is) =

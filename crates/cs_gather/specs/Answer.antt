@@ -1,8 +1,9 @@
 -- What is answered to `gather`.
-use Rattle.std.specs.Prelude.{◌≡◌, ◌⊎◌, ℕ, true, List, [], ◌∷◌, ◌++◌, Option, IfSome, IsSome, codes}
+use Rattle.std.specs.Prelude.{◌≡◌, ◌<◌, ◌≤◌, ◌⊎◌, if◌then◌else◌, ℕ, Bool, true, false, List, [], ◌∷◌, ◌++◌, Option, IfSome, IsSome, codes, length}
 use Rattle.clap.specs.Words.{Text}
 use Rattle.cs_table.specs.Table.{Found, as_error}
 use Rattle.cs_table.specs.declared.fault.TableFault.{TableFault}
+use Rattle.cs_table.specs.declared.limits.TheConstants.{MAX_TABLE}
 use Rattle.cs_system.specs.declared.fault.SystemFault.{SystemFault}
 use Rattle.cs_io.specs.Files.{Failed}
 use Rattle.cs_io.specs.Folders.{Tree}
@@ -12,46 +13,65 @@ use Rattle.cs_files.specs.Trouble.{InGathered, TellsPath, Trouble, ends}
 use Rattle.cs_gather.specs.Gather.{Denotes, Gathers, HasFault, IsOverflow, room_behind}
 use Rattle.cs_gather.specs.Gathered.{commands_of}
 use Rattle.cs_gather.specs.Tables.{AreFound, AreNamed, Given}
+use Rattle.cs_gather.specs.declared.gathering.Gathering.{Gathering}
 use Rattle.cs_gather.specs.declared.line.Gathered.{Gathered}
 use Rattle.cs_gather.specs.declared.table.Table.{Table}
 
 -- ---- what is added
 
+-- the commands so far, and whether no table was passed over
+pub record Sum : Type 0 where
+  pub commands : List Gathered
+  pub is_whole : Bool
+
+abbrev pub nothing : Sum
+nothing = record { commands = []; is_whole = true }
+
+abbrev pub sum_of : Gathering → Sum
+sum_of gathering =
+    record { commands = gathering.commands.items; is_whole = gathering.is_whole }
+
 -- the text of a table adds its commands
-abbrev pub AddsText : Given → List Gathered → List Gathered → List ℕ → Type 0
+abbrev pub AddsText : Given → Sum → Sum → List ℕ → Type 0
 AddsText given old more text = (table : Table) × Denotes given.user text table
-    × (more ≡ old ++ commands_of given table)
+    × (more.commands ≡ old.commands ++ commands_of given table) × (more.is_whole ≡ old.is_whole)
 
--- or it has a fault, or too much to add
-abbrev pub FaultsText : Given → List Gathered → TableFault SystemFault → List ℕ → Type 0
-FaultsText given old fault text = HasFault given.user text fault
+-- or, of a table below the root folder, it has a fault: it is passed over
+abbrev pub IsPassedOver : Given → Sum → Sum → List ℕ → Type 0
+IsPassedOver given old more text = IsSome given.below × (length text ≤ MAX_TABLE)
+    × ((fault : Found SystemFault) × HasFault given.user text (as_error fault))
+    × (more.commands ≡ old.commands) × (more.is_whole ≡ false)
+
+-- a fault that stops the call: of a table that isn't passed over, or too much to add
+abbrev pub FaultsText : Given → Sum → TableFault SystemFault → List ℕ → Type 0
+FaultsText given old fault text =
+    (HasFault given.user text fault × (IsSome given.below → MAX_TABLE < length text))
     ⊎ ((table : Table) × Denotes given.user text table
-    × IsOverflow text (room_behind old) (commands_of given table) fault)
+    × IsOverflow text (room_behind old.commands) (commands_of given table) fault)
 
--- a table adds the commands that its path's bytes say, where they are known
-abbrev pub Adds : (List ℕ → Option (List ℕ)) → Given → List Gathered → List Gathered → Type 0
-Adds files given old more = IfSome (files given.path) (AddsText given old more)
+-- a table adds the commands that its path's bytes say, where they are known, or is passed over
+abbrev pub Adds : (List ℕ → Option (List ℕ)) → Given → Sum → Sum → Type 0
+Adds files given old more = IfSome (files given.path)
+    (λ text. AddsText given old more text ⊎ IsPassedOver given old more text)
 
 -- tables add theirs in turn
-abbrev pub AllAdded : (List ℕ → Option (List ℕ)) → List Given → List Gathered → List Gathered
-    → Type 0
+abbrev pub AllAdded : (List ℕ → Option (List ℕ)) → List Given → Sum → Sum → Type 0
 AllAdded files [] old more = more ≡ old
 AllAdded files (given ∷ later) old more =
-    (between : List Gathered) × Adds files given old between × AllAdded files later between more
+    (between : Sum) × Adds files given old between × AllAdded files later between more
 
 -- a table can't be read, or its bytes have a fault behind the commands so far
-abbrev pub Stops : (List ℕ → Option (List ℕ)) → Failed → Given → List Gathered → Trouble → Type 0
+abbrev pub Stops : (List ℕ → Option (List ℕ)) → Failed → Given → Sum → Trouble → Type 0
 Stops files failed given old t =
     ((failed given.path ≡ true) × TellsPath given.path t)
     ⊎ ((fault : Found SystemFault) × (t ≡ InGathered given.path fault)
     × IfSome (files given.path) (FaultsText given old (as_error fault)))
 
 -- all tables before one add theirs, and it stops the call
-abbrev pub FirstStops : (List ℕ → Option (List ℕ)) → Failed → List Given → List Gathered → Trouble
-    → Type 0
+abbrev pub FirstStops : (List ℕ → Option (List ℕ)) → Failed → List Given → Sum → Trouble → Type 0
 FirstStops files failed [] old t = ⊥
 FirstStops files failed (given ∷ later) old t = Stops files failed given old t
-    ⊎ ((between : List Gathered) × Adds files given old between
+    ⊎ ((between : Sum) × Adds files given old between
     × FirstStops files failed later between t)
 
 -- ---- what is answered
@@ -64,10 +84,11 @@ IsNotReadBack ending = (notes : List ℕ) × (ending ≡ record {
   err = notes ++ complaint (codes "the gathered table reads otherwise than its parts");
 })
 
--- one table of all commands
-abbrev pub ShowsGathered : List Gathered → Ending → Type 0
-ShowsGathered commands ending =
-    ((ending.status ≡ 0) × Gathers ending.out commands) ⊎ IsNotReadBack ending
+-- one table of all commands; the status says whether a table was passed over
+abbrev pub ShowsGathered : Sum → Ending → Type 0
+ShowsGathered sum ending =
+    ((ending.status ≡ (if sum.is_whole then 0 else 1)) × Gathers ending.out sum.commands)
+    ⊎ IsNotReadBack ending
 
 -- a fault ends the call, behind notes
 abbrev pub EndsFor : Trouble → Ending → Type 0
@@ -76,8 +97,8 @@ EndsFor t ending = (notes : List ℕ) × (ending ≡ ends notes t)
 -- all tables are gathered, or the first that stops the call is told
 abbrev pub GathersAll : (List ℕ → Option (List ℕ)) → Failed → List Given → Ending → Type 0
 GathersAll files failed tables ending =
-    ((commands : List Gathered) × AllAdded files tables [] commands × ShowsGathered commands ending)
-    ⊎ ((t : Trouble) × FirstStops files failed tables [] t × EndsFor t ending)
+    ((sum : Sum) × AllAdded files tables nothing sum × ShowsGathered sum ending)
+    ⊎ ((t : Trouble) × FirstStops files failed tables nothing t × EndsFor t ending)
 
 -- no tables are below the root folder
 abbrev pub IsBare : Option Text → List Given → Type 0

@@ -3,7 +3,7 @@ use Rattle.std.specs.Prelude.{ℕ, ◌==◌, if◌then◌else◌, List, [], ◌�
 use Rattle.cs_crontab.specs.Crontab.{CommandLine}
 use Rattle.cs_system.specs.System.{SystemCommand}
 use Rattle.cs_place.specs.Shown.{shown}
-use Rattle.cs_gather.specs.Tables.{Given}
+use Rattle.cs_gather.specs.Tables.{Given, name_of}
 use Rattle.cs_gather.specs.declared.line.Gathered.{Gathered}
 use Rattle.cs_gather.specs.declared.table.Table.{Table}
 use Rattle.cs_gather.specs.declared.table.Table.TheVariants.{System, User}
@@ -38,5 +38,6 @@ of_user name user line = record {
 
 -- the commands of a table
 abbrev pub commands_of : Given → Table → List Gathered
-commands_of given (System table) = map (of_system given.path) table.lines
-commands_of given (User table) = map (of_user given.path (unwrap_or given.user [])) table.lines
+commands_of given (System table) = map (of_system (name_of given)) table.lines
+commands_of given (User table) =
+    map (of_user (name_of given) (unwrap_or given.user [])) table.lines

@@ -6,7 +6,7 @@ use Rattle.cs_io.specs.Files.{AreReadInTurn, Failed, Reads}
 use Rattle.cs_io.specs.Folders.{Tree}
 use Rattle.cs_place.specs.Places.{is_part_name}
 use Rattle.cs_files.specs.Trouble.{IsUnread, Trouble, Unread}
-use Rattle.cs_gather.specs.Tables.{Given, IsFileAt, IsIn, IsUserName, system_table, user_table}
+use Rattle.cs_gather.specs.Tables.{Given, IsFileAt, IsIn, IsUserName, found_table}
 use Rattle.cs_gather.specs.declared.below.Shelf.{Shelf}
 use Rattle.cs_gather.specs.declared.below.Shelf.TheVariants.{CronD, Crontabs}
 use Rattle.cs_gather.specs.declared.below.Unlisted.{Unlisted}
@@ -24,8 +24,8 @@ HasName Crontabs name = IsUserName name
 
 -- a table in a folder of tables
 abbrev pub given_in : Shelf → Text → Text → Given
-given_in CronD path name = system_table path
-given_in Crontabs path name = user_table path name
+given_in CronD path name = found_table path (place_of CronD ++ name) None
+given_in Crontabs path name = found_table path (place_of Crontabs ++ name) (Some name)
 
 -- the table of this name is found, if it is one of a file
 abbrev pub FindsNamed : Tree → Text → Shelf → List Given → Text → Type 0

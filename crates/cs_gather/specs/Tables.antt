@@ -1,5 +1,5 @@
 -- Which tables `gather` is to read.
-use Rattle.std.specs.Prelude.{◌≡◌, ◌⊎◌, ◌==◌, All, Contains, true, false, List, [], ◌∷◌, ◌++◌, Option, Some, None, codes, map, nat_eq, ⊤}
+use Rattle.std.specs.Prelude.{◌≡◌, ◌⊎◌, ◌==◌, All, Contains, true, false, List, [], ◌∷◌, ◌++◌, Option, Some, None, codes, map, nat_eq, unwrap_or, ⊤}
 use Rattle.std.specs.List.{AllZip, list_any, starts_with}
 use Rattle.std.specs.Str.{IsUtf8}
 use Rattle.clap.specs.Words.{Text}
@@ -9,18 +9,24 @@ use Rattle.cs_io.specs.declared.folders.FileKind.TheVariants.{Program, Regular}
 use Rattle.cs_place.specs.Places.{is_part_name}
 use Rattle.cs_args.specs.Asked.{AskedGather}
 
--- a table to gather: its path, and whose it is, unless its lines name users
+-- a table to gather: its path, its path below the root folder, if it was found there, and whose it
+-- is, unless its lines name users
 pub record Given : Type 0 where
   pub path : Text
+  pub below : Option Text
   pub user : Option Text
 
-abbrev pub system_table : Text → Given
-system_table path = record { path = path; user = None }
-
-abbrev pub user_table : Text → Text → Given
-user_table path user = record { path = path; user = Some user }
+-- its name in places: its path, but below the root folder without the path of that
+abbrev pub name_of : Given → Text
+name_of given = unwrap_or given.below given.path
 
 -- ---- the tables that the words name
+
+abbrev pub system_table : Text → Given
+system_table path = record { path = path; below = None; user = None }
+
+abbrev pub user_table : Text → Text → Given
+user_table path user = record { path = path; below = None; user = Some user }
 
 -- what stands behind the last slash of a path, or all of it
 abbrev pub IsLastPart : Text → Text → Type 0
@@ -38,6 +44,9 @@ AreNamed a named = (users : List Given) × AllZip IsUserFile a.user users
 
 -- ---- the tables below a root folder
 
+abbrev pub found_table : Text → Text → Option Text → Given
+found_table path below user = record { path = path; below = Some below; user = user }
+
 -- paths below a folder begin so: with its own path, of which a slash at the end isn't doubled. A
 -- folder by the name of standard input is called `./-`.
 abbrev pub IsFront : Text → Text → Type 0
@@ -52,11 +61,13 @@ IsUserName name = IsUtf8 name × (starts_with nat_eq name (46 ∷ []) ≡ false)
 -- where this is so of the folder and the name
 abbrev pub IsTableBelow : Text → (Text → Text → Type 0) → Given → Type 0
 IsTableBelow front IsSo given =
-    (given ≡ system_table (front ++ codes "/etc/crontab"))
+    (given ≡ found_table (front ++ codes "/etc/crontab") (codes "/etc/crontab") None)
     ⊎ (((name : Text) × (is_part_name name ≡ true) × IsSo (front ++ codes "/etc/cron.d/") name
-    × (given ≡ system_table ((front ++ codes "/etc/cron.d/") ++ name)))
+    × (given ≡ found_table ((front ++ codes "/etc/cron.d/") ++ name)
+    (codes "/etc/cron.d/" ++ name) None))
     ⊎ ((name : Text) × IsUserName name × IsSo (front ++ codes "/var/spool/cron/crontabs/") name
-    × (given ≡ user_table ((front ++ codes "/var/spool/cron/crontabs/") ++ name) name)))
+    × (given ≡ found_table ((front ++ codes "/var/spool/cron/crontabs/") ++ name)
+    (codes "/var/spool/cron/crontabs/" ++ name) (Some name))))
 
 abbrev pub IsBelow : Text → Given → Type 0
 IsBelow front = IsTableBelow front (λ folder name. ⊤)

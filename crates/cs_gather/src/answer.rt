@@ -1,17 +1,19 @@
 //! The subcommand `gather`.
-ghost use Rattle.std.specs.Prelude.{◌≡◌, ◌++◌, IfErr, IfOk, IfSome, OnOk, map};
+ghost use Rattle.std.specs.Prelude.{◌≡◌, ◌<◌, ◌≤◌, ◌++◌, IfErr, IfOk, IfSome, IsFalse, IsSome};
+ghost use Rattle.std.specs.Prelude.{IsTrue, OnOk, false, length, map};
 ghost use Rattle.cs_args.specs.Asked.{asked_gather};
+ghost use Rattle.cs_table.specs.declared.limits.TheConstants.{MAX_TABLE};
 ghost use Rattle.cs_io.specs.Files.{AreReadInTurn, IsFresh, IsReadAlone};
-ghost use Rattle.cs_files.specs.Trouble.{IsHonest, IsHonestOf, trouble};
+ghost use Rattle.cs_files.specs.Trouble.{IsHonest, IsHonestOf, gathered_trouble, trouble};
 ghost use Rattle.cs_files.specs.Turn.{AreReadToGather, gather_paths};
 ghost use Rattle.cs_gather.specs.Answer.{Adds, AllAdded, AnswersGather, FirstStops};
-ghost use Rattle.cs_gather.specs.Answer.{GathersAll, ShowsGathered, Stops};
+ghost use Rattle.cs_gather.specs.Answer.{GathersAll, ShowsGathered, Stops, sum_of};
 ghost use Rattle.cs_gather.specs.Tables.{AreNamed};
 
 use crate::confirm::says;
-use crate::gathering::Gathering;
+use crate::gathering::{GatherFault, Gathering};
 use crate::given::{Given, push_named};
-use crate::note::push_warnings;
+use crate::note::{push_passed_over, push_warnings};
 use crate::parts::parts_asked;
 use crate::root::tables_below;
 use crate::table::read_table;
@@ -23,8 +25,42 @@ use cs_place::MARK;
 use cs_table::MAX_TABLE;
 use std::alloc::{AllocError, Global};
 
-/// Reads a table and adds its commands, with their parts where a root folder is asked; what is to
-/// be told of it comes behind the notes.
+/// Passes over a table with a fault, which is told, if it was found below the root folder and isn't
+/// longer than a table may be. Says whether it did.
+fn passes_over(
+    alloc: Global,
+    given: &Given,
+    bytes: &[u8],
+    fault: GatherFault,
+    gathering: &mut Gathering,
+    notes: &mut Vec<u8>,
+) -> Result<bool, AllocError>
+    ensures found { IfOk result (λ is. IsTrue is
+        → IsSome given.now.below × (length bytes.now ≤ MAX_TABLE)) }
+    ensures told { IfOk result (λ is. IsTrue is
+        → IsSome (gathered_trouble given.now.path fault)) }
+    ensures passed { IfOk result (λ is. IsTrue is
+        → (gathering.new.commands.items ≡ gathering.old.commands.items)
+        × (gathering.new.is_whole ≡ false)) }
+    ensures stops { IfOk result (λ is. IsFalse is
+        → IsSome given.now.below → MAX_TABLE < length bytes.now) }
+{
+    if !given.is_found() {
+        return Ok(false);
+    }
+    if bytes.len() > MAX_TABLE {
+        return Ok(false);
+    }
+    let path = given.path();
+    let told = Fault::Gathered(path, fault).response(alloc, b"".as_slice())?;
+    notes.extend_from_slice(told.err())?;
+    push_passed_over(notes, path, b"", "it has a fault")?;
+    gathering.is_whole = false;
+    Ok(true)
+}
+
+/// Reads a table and adds its commands, with their parts where a root folder is asked, or passes it
+/// over; what is to be told of it comes behind the notes.
 fn add_table<'a, I: Folders>(
     alloc: Global,
     inputs: &mut I,
@@ -34,11 +70,10 @@ fn add_table<'a, I: Folders>(
     notes: &mut Vec<u8>,
 ) -> Result<(), Fault<'a>>
     ensures adds { IsFresh (I.whole inputs.old) (I.left inputs.old) → OnOk result
-        (Adds (I.whole inputs.old) given.now gathering.old.commands.items
-        gathering.new.commands.items) }
+        (Adds (I.whole inputs.old) given.now (sum_of gathering.old) (sum_of gathering.new)) }
     ensures stops { IsFresh (I.whole inputs.old) (I.left inputs.old)
         → IfErr result (λ e. IfSome (trouble e) (Stops (I.whole inputs.old)
-        (I.failed inputs.new) given.now gathering.old.commands.items)) }
+        (I.failed inputs.new) given.now (sum_of gathering.old))) }
     ensures whole { I.whole inputs.new ≡ I.whole inputs.old }
     ensures fresh { OnOk result (IsFresh (I.whole inputs.old) (I.left inputs.old)
         → IsFresh (I.whole inputs.new) (I.left inputs.new)) }
@@ -47,14 +82,22 @@ fn add_table<'a, I: Folders>(
 {
     let path = given.path();
     let bytes = bytes_at(alloc, inputs, path, MAX_TABLE as u32)?;
-    let table = match read_table(alloc, given, bytes.as_slice()) {
+    let text = bytes.as_slice();
+    let table = match read_table(alloc, given, text) {
         Ok(table) => table,
-        Err(fault) => return Err(Fault::Gathered(path, fault)),
+        Err(fault) => {
+            let is_passed = passes_over(alloc, given, text, fault, gathering, notes)?;
+            if is_passed {
+                return Ok(());
+            }
+            return Err(Fault::Gathered(path, fault));
+        }
     };
     let commands = table.commands(alloc, given)?;
     let parts = parts_asked(alloc, inputs, root, path, commands.as_slice(), notes)?;
-    match gathering.add(alloc, path, bytes.as_slice(), commands, parts.as_slice()) {
-        Ok(()) => Ok(push_warnings(alloc, notes, path, bytes.as_slice(), &table)?),
+    let name = given.name();
+    match gathering.add(alloc, name, text, commands, parts.as_slice()) {
+        Ok(()) => Ok(push_warnings(alloc, notes, path, text, &table)?),
         Err(fault) => Err(Fault::Gathered(path, fault)),
     }
 }
@@ -69,11 +112,11 @@ fn add_tables<'a, I: Folders>(
     notes: &mut Vec<u8>,
 ) -> Result<(), Fault<'a>>
     ensures adds { IsFresh (I.whole inputs.old) (I.left inputs.old) → OnOk result
-        (AllAdded (I.whole inputs.old) tables.now gathering.old.commands.items
-        gathering.new.commands.items) }
+        (AllAdded (I.whole inputs.old) tables.now (sum_of gathering.old)
+        (sum_of gathering.new)) }
     ensures stops { IsFresh (I.whole inputs.old) (I.left inputs.old)
         → IfErr result (λ e. IfSome (trouble e) (FirstStops (I.whole inputs.old)
-        (I.failed inputs.new) tables.now gathering.old.commands.items)) }
+        (I.failed inputs.new) tables.now (sum_of gathering.old))) }
     ensures status { IfErr result (IsHonestOf (I.failed inputs.new) (I.reads inputs.new)) }
     ensures turn { AreReadInTurn (map (λ given. given.path) tables.now)
         (I.reads inputs.old) (I.reads inputs.new) }
@@ -88,10 +131,14 @@ fn add_tables<'a, I: Folders>(
 
 /// The text of what was gathered.
 fn show(alloc: Global, gathering: Gathering, notes: Vec<u8>) -> Result<Response, AllocError>
-    ensures { IfOk result (ShowsGathered gathering.commands.items) }
+    ensures { IfOk result (ShowsGathered (sum_of gathering)) }
 {
     if says(alloc, &gathering.text, &gathering.commands)? {
-        return Ok(Response::done(gathering.text, Bytes::from_vec(notes)));
+        let notes = Bytes::from_vec(notes);
+        if gathering.is_whole {
+            return Ok(Response::done(gathering.text, notes));
+        }
+        return Ok(Response::refused(gathering.text, notes));
     }
     let fault = b"the gathered table reads otherwise than its parts".as_slice();
     Response::fault(alloc, Status::Unknown, notes.as_slice(), fault)
@@ -120,6 +167,7 @@ fn gather<I: Folders>(
     let mut gathering = Gathering {
         text: Vec::from_slice(alloc, MARK.as_bytes())?,
         commands: Vec::new(alloc),
+        is_whole: true,
     };
     match add_tables(alloc, inputs, request.root, all, &mut gathering, &mut notes) {
         Ok(()) => show(alloc, gathering, notes),

@@ -1,7 +1,7 @@
 //! The tables below a root folder.
-ghost use Rattle.std.specs.Prelude.{◌≡◌, ◌⊎◌, ◌++◌, [], ◌∷◌, All, Contains, IfErr, IfOk, IfSome, OnErr, OnOk, Some, codes, option_map, string_bytes};
+ghost use Rattle.std.specs.Prelude.{◌≡◌, ◌⊎◌, ◌++◌, [], ◌∷◌, All, Contains, IfErr, IfOk, IfSome, None, OnErr, OnOk, Some, codes, option_map, string_bytes};
 ghost use Rattle.cs_files.specs.Trouble.{ends};
-ghost use Rattle.cs_gather.specs.Tables.{IsBelow, IsFile, IsFileAt, system_table};
+ghost use Rattle.cs_gather.specs.Tables.{IsBelow, IsFile, IsFileAt, found_table};
 ghost use Rattle.cs_gather.specs.Listing.{AreAmong, FindsAllOn, FindsNamed, HasName, IsUnlisted, NoneRead};
 ghost use Rattle.cs_gather.specs.Listing.{given_in, place_of, unlisted_trouble};
 
@@ -104,9 +104,10 @@ impl Shelf {
     fn given(self, alloc: Global, path: String, name: &str) -> Result<Given, AllocError>
         ensures { IfOk result (λ given. given ≡ given_in self (string_bytes path) name.now) }
     {
+        let below = joined(alloc, self.place(), name)?;
         match self {
-            Shelf::CronD => Ok(Given::system(path)),
-            Shelf::Crontabs => Ok(Given::user(path, String::from_str(alloc, name)?)),
+            Shelf::CronD => Ok(Given::found(path, below, None)),
+            Shelf::Crontabs => Ok(Given::found(path, below, Some(String::from_str(alloc, name)?))),
         }
     }
 }
@@ -196,13 +197,15 @@ pub(crate) fn push_crontab<I: Folders>(
     ensures keeps { OnOk result (AreAmong found.old.items found.new.items) }
     ensures finds { OnOk result
         (IsFileAt I.tree (front.now ++ codes "/etc/crontab")
-        → Contains found.new.items (system_table (front.now ++ codes "/etc/crontab"))) }
+        → Contains found.new.items (found_table (front.now ++ codes "/etc/crontab")
+        (codes "/etc/crontab") None)) }
     ensures stays { NoneRead I.whole I.left I.reads inputs.old inputs.new }
     ensures fails { IfErr result (IsUnlisted (I.failed inputs.new) (I.reads inputs.new)) }
 {
+    let below = String::from_str(alloc, "/etc/crontab")?;
     let (path, kind) = found_at(alloc, inputs, front, "/etc/crontab")?;
     match kind {
-        Some(_) => Ok(push_found(kind, Given::system(path), found, notes)?),
+        Some(_) => Ok(push_found(kind, Given::found(path, below, None), found, notes)?),
         None => Ok(()),
     }
 }

@@ -27,6 +27,8 @@ pub(crate) type GatherFault = TableFault<SystemFault>;
 pub(crate) struct Gathering {
     pub(crate) text: Vec<u8>,
     pub(crate) commands: Vec<Gathered>,
+    /// Whether no table was passed over.
+    pub(crate) is_whole: bool,
 }
 
 impl Gathering {
@@ -41,7 +43,8 @@ impl Gathering {
     ) -> Result<(), GatherFault>
         requires { length bytes.now ≤ MAX_TABLE }
         ensures ok { OnOk result
-            (self.new.commands.items ≡ self.old.commands.items ++ commands.items) }
+            ((self.new.commands.items ≡ self.old.commands.items ++ commands.items)
+            × (self.new.is_whole ≡ self.old.is_whole)) }
         ensures err { IfErr result
             (IsOverflow bytes.now (room_behind self.old.commands.items) commands.items) }
     {

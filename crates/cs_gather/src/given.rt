@@ -1,8 +1,9 @@
 //! Tables to gather.
-ghost use Rattle.std.specs.Prelude.{◌≡◌, ◌++◌, OnOk, map, option_map, string_bytes};
+ghost use Rattle.std.specs.Prelude.{◌≡◌, ◌++◌, OnOk, is_some, map, option_map, string_bytes};
 ghost use Rattle.std.specs.List.{AllZip};
 ghost use Rattle.cs_args.specs.Asked.{asked_gather};
-ghost use Rattle.cs_gather.specs.Tables.{AreNamed, IsLastPart, IsUserFile, system_table, user_table};
+ghost use Rattle.cs_gather.specs.Tables.{AreNamed, IsLastPart, IsUserFile, found_table, name_of};
+ghost use Rattle.cs_gather.specs.Tables.{system_table, user_table};
 
 use cs_args::GatherWords;
 use std::alloc::{AllocError, Global};
@@ -12,6 +13,7 @@ use std::marker::Model;
 #[derive(Drop)]
 pub(crate) struct Given {
     place: String,
+    inner: Option<String>,
     whose: Option<String>,
 }
 
@@ -24,6 +26,7 @@ impl Model for Given {
 
     ghost view = { λ a. record {
       path = string_bytes a.place;
+      below = option_map string_bytes a.inner;
       user = option_map string_bytes a.whose;
     } };
 }
@@ -35,6 +38,7 @@ impl Given {
     {
         Given {
             place: path,
+            inner: None,
             whose: None,
         }
     }
@@ -45,7 +49,20 @@ impl Given {
     {
         Given {
             place: path,
+            inner: None,
             whose: Some(user),
+        }
+    }
+
+    /// A table below the root folder, by its path there, of this user if its lines name none.
+    pub(crate) fn found(path: String, below: String, user: Option<String>) -> Given
+        ensures { result ≡ found_table (string_bytes path) (string_bytes below)
+            (option_map string_bytes user) }
+    {
+        Given {
+            place: path,
+            inner: Some(below),
+            whose: user,
         }
     }
 
@@ -54,6 +71,23 @@ impl Given {
         ensures { result.now ≡ self.now.path }
     {
         self.place.as_str()
+    }
+
+    /// Its name in places.
+    pub(crate) fn name(&self) -> &str
+        ensures { result.now ≡ name_of self.now }
+    {
+        match &self.inner {
+            Some(below) => below.as_str(),
+            None => self.place.as_str(),
+        }
+    }
+
+    /// Whether it was found below the root folder.
+    pub(crate) fn is_found(&self) -> bool
+        ensures { result ≡ is_some self.now.below }
+    {
+        self.inner.is_some()
     }
 
     /// Whose it is, unless its lines name users.

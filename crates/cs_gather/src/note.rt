@@ -15,8 +15,8 @@ pub(crate) fn push_line(text: &mut Vec<u8>, parts: &[&[u8]]) -> Result<(), Alloc
     text.extend_from_slice(b"\n")
 }
 
-/// Writes behind the text that something is passed over, and why; but nothing of the file that Debian
-/// puts into its folders, so that they stay.
+/// Writes behind the text that something is passed over, and why; but nothing of the file with
+/// which Debian's packages keep folders.
 pub(crate) fn push_passed_over(
     text: &mut Vec<u8>,
     folder: &str,

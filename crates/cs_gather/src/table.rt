@@ -94,7 +94,7 @@ impl Table {
     pub(crate) fn commands(&self, alloc: Global, given: &Given) -> Result<Vec<Gathered>, AllocError>
         ensures { IfOk result (λ commands. commands.items ≡ commands_of given.now self.now) }
     {
-        let name = given.path().as_bytes();
+        let name = given.name().as_bytes();
         match self {
             Table::System(table) => system_commands(alloc, name, table.lines()),
             Table::User(table) => {

@@ -35,6 +35,8 @@ NO_CONFLICT = (
 FAULT = re.compile(rb"cronsafe: (?:(?:ana)?crontab line (\d+)|declarations): (\d+ [A-Z]\w+.*)")
 HINT = re.compile(rb"cronsafe: (the table reads as|the longest time is|--from is)")
 SHOWN = re.compile(rb"(.+?):(\d+):(\d+): fault: (.+)")
+# What is shown of the first line behind a byte order mark, whatever else is wrong with it.
+MARKED = b"6 BadNumber: a byte order mark stands in front: "
 NAME = os.path.relpath(os.path.realpath(sys.argv[0]), TOP)
 
 
@@ -130,7 +132,7 @@ def is_shown(place, lines, text):
 
 
 def without_shown(err, text_of, is_declared):
-    """Returns what a call says without the lines that show a fault of a file, which have to be so."""
+    """Returns what a call says without the lines that show a fault, which have to be so."""
     lines, kept = err.split(b"\n"), []
     while lines:
         kept.append(lines.pop(0))
@@ -139,7 +141,8 @@ def without_shown(err, text_of, is_declared):
             is_there = fault[1] in (None, b"0", place[2])
             if not is_there or not is_shown(place, lines[1:], text_of(place[1])):
                 raise Fault(f"{place[0]!r} isn't shown: {lines[1:3]}")
-            names.append(place[4])
+            is_marked = text_of(place[1]).startswith(b"\xef\xbb\xbf") and place[2] == b"1"
+            names.append(place[4].replace(MARKED, fault[2] + b": ") if is_marked else place[4])
             del lines[: 4 if lines[3].startswith(b"  line ") else 3]
         is_wanted = fault and not HINT.match(lines[0]) and (fault[1] or is_declared)
         if is_wanted and not any(it.startswith(fault[2] + b": ") for it in names):

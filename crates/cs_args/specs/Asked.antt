@@ -76,6 +76,7 @@ pub record AskedMake : Type 0 where
 pub record AskedAdvise : Type 0 where
   pub judge : AskedJudge
   pub within : ℕ
+  pub first : Option ℕ
 
 pub record AskedGather : Type 0 where
   pub root : Option Text
@@ -92,6 +93,7 @@ pub record AskedDraft : Type 0 where
 pub record AskedLearn : Type 0 where
   pub table : Text
   pub logs : List Text
+  pub anacrontab : Option Text
   pub factor : Text
 
 pub record AskedLint : Type 0 where
@@ -189,7 +191,7 @@ abbrev pub asked_make : MakeWords → AskedMake
 asked_make m = record { judge = asked_judge m.judge; compact = m.compact }
 
 abbrev pub asked_advise : AdviseWords → AskedAdvise
-asked_advise a = record { judge = asked_judge a.judge; within = a.within }
+asked_advise a = record { judge = asked_judge a.judge; within = a.within; first = a.first }
 
 abbrev pub asked_gather : GatherWords → AskedGather
 asked_gather g = record {
@@ -211,6 +213,7 @@ abbrev pub asked_learn : LearnWords → AskedLearn
 asked_learn l = record {
   table = l.table.now;
   logs = map (λ path. path.now) l.logs.items;
+  anacrontab = option_map (λ path. path.now) l.anacrontab;
   factor = l.factor.now;
 }
 

@@ -54,7 +54,7 @@ usage_of subcommand.Make = (
 )
 usage_of subcommand.Advise = (
   codes "advise",
-  word "TABLE" ∷ word "DECLS" ∷ value "anacrontab" ∷ value "within" ∷ [],
+  word "TABLE" ∷ word "DECLS" ∷ value "anacrontab" ∷ value "within" ∷ value "first" ∷ [],
 )
 usage_of subcommand.Room = (codes "room", word "TABLE" ∷ word "DECLS" ∷ value "anacrontab" ∷ [])
 usage_of subcommand.Run = (
@@ -71,7 +71,10 @@ usage_of subcommand.Draft = (
   codes "draft",
   word "TABLE" ∷ value "anacrontab" ∷ value "max" ∷ value "update" ∷ value "max-from" ∷ [],
 )
-usage_of subcommand.Learn = (codes "learn", word "TABLE" ∷ words "LOG" ∷ value "factor" ∷ [])
+usage_of subcommand.Learn = (
+  codes "learn",
+  word "TABLE" ∷ words "LOG" ∷ value "anacrontab" ∷ value "factor" ∷ [],
+)
 usage_of subcommand.Lint = (
   codes "lint",
   word "TABLE" ∷ optional_word "DECLS" ∷ value "anacrontab" ∷ value "zone" ∷ values "only" ∷
@@ -79,7 +82,8 @@ usage_of subcommand.Lint = (
 )
 usage_of subcommand.Day = (
   codes "day",
-  word "TABLE" ∷ word "DATE" ∷ word "MAX" ∷ value "anacrontab" ∷ value "from" ∷ value "to" ∷ [],
+  word "TABLE" ∷ word "DATE" ∷ optional_word "MAX" ∷ value "anacrontab" ∷ value "from" ∷
+      value "to" ∷ [],
 )
 usage_of subcommand.Chart = (
   codes "chart",
@@ -112,7 +116,7 @@ all_subcommands =
 abbrev pub numbers : List Text
 numbers =
     codes "MAX" ∷ codes "from" ∷ codes "to" ∷ codes "days" ∷ codes "max" ∷ codes "minutes" ∷
-    codes "keep" ∷ codes "within" ∷ []
+    codes "keep" ∷ codes "within" ∷ codes "first" ∷ []
 
 -- the arguments at which - is standard input, in one of them at most
 abbrev pub inputs : List Text
@@ -209,20 +213,21 @@ is_misfit rows =
     || (is_twice_standard inputs rows
     || ((has_flag (codes "script") rows && not (has_flag (codes "log") rows))
     || ((number_or 1 (codes "days") rows == 0 || nat_lt 7 (number_or 1 (codes "days") rows))
-    || (number_or 120 (codes "within") rows == 0
-    || nat_lt 1439 (number_or 120 (codes "within") rows))))))
+    || ((number_or 120 (codes "within") rows == 0
+    || nat_lt 1439 (number_or 120 (codes "within") rows))
+    || number_or 1 (codes "first") rows == 0)))))
 
 -- the words of a subcommand are wrong, though they have its form
 abbrev pub is_wrong : Subcommand → List Row → Bool
 is_wrong s rows =
     lacks s rows || (has_no_number numbers rows || (has_unknown_name rows || is_misfit rows))
 
--- what they ask, where they aren't
-abbrev pub day_in : List Row → Asked
-day_in rows = record {
+-- what they ask, where they aren't: of a day with that longest time where none is given
+abbrev pub day_in : ℕ → List Row → Asked
+day_in absent rows = record {
   table = value_or [] (codes "TABLE") rows;
   date = value_or [] (codes "DATE") rows;
-  max = number_or 1440 (codes "MAX") rows;
+  max = number_or absent (codes "MAX") rows;
   anacrontab = first_of (codes "anacrontab") rows;
   from = number_or 0 (codes "from") rows;
   to = number_or 1440 (codes "to") rows;
@@ -244,9 +249,9 @@ judge_in rows = record {
 }
 
 abbrev pub asked_in : Subcommand → List Row → Asking
-asked_in subcommand.Day rows = Day (day_in rows)
+asked_in subcommand.Day rows = Day (day_in 1 rows)
 asked_in subcommand.Chart rows = Chart (record {
-  day = day_in rows;
+  day = day_in 1440 rows;
   days = min 7 (number_or 1 (codes "days") rows);
   declarations = first_of (codes "declarations") rows;
 })
@@ -285,7 +290,11 @@ asked_in subcommand.Judge rows = Judge (judge_in rows)
 asked_in subcommand.Make rows =
     Make (record { judge = judge_in rows; compact = has_flag (codes "compact") rows })
 asked_in subcommand.Advise rows =
-    Advise (record { judge = judge_in rows; within = number_or 120 (codes "within") rows })
+    Advise (record {
+      judge = judge_in rows;
+      within = number_or 120 (codes "within") rows;
+      first = optional_number (codes "first") rows;
+    })
 asked_in subcommand.Room rows = Room (judge_in rows)
 asked_in subcommand.Gather rows = Gather (record {
   root = first_of (codes "root") rows;
@@ -302,6 +311,7 @@ asked_in subcommand.Draft rows = Draft (record {
 asked_in subcommand.Learn rows = Learn (record {
   table = value_or [] (codes "TABLE") rows;
   logs = values_in (codes "LOG") rows;
+  anacrontab = first_of (codes "anacrontab") rows;
   factor = value_or (codes "1.5") (codes "factor") rows;
 })
 asked_in subcommand.Lint rows = Lint (record {

@@ -26,8 +26,8 @@ use std::alloc::{AllocError, Global};
 use std::convert::AsStr;
 
 /// The arguments whose value is a number.
-static NUMBERS: [&str; 8] = [
-    "MAX", "from", "to", "days", "max", "minutes", "keep", "within",
+static NUMBERS: [&str; 9] = [
+    "MAX", "from", "to", "days", "max", "minutes", "keep", "within", "first",
 ];
 
 /// The arguments at which `-` is standard input.
@@ -254,6 +254,7 @@ impl<'a, 'm> Given<'a, 'm> {
         let (script, log) = (self.has_flag("script"), self.has_flag("log"));
         let days = self.number("days", 1);
         let within = self.number("within", 120);
+        let first = self.number("first", 1);
         if keeps && !output {
             Some("--keep is given without --output")
         } else if keep == 0 {
@@ -266,6 +267,8 @@ impl<'a, 'm> Given<'a, 'm> {
             Some("--days is from 1 to 7")
         } else if within == 0 || within > 1439 {
             Some("--within is from 1 to 1439")
+        } else if first == 0 {
+            Some("--first is at least 1")
         } else {
             None
         }
@@ -292,14 +295,14 @@ impl<'a, 'm> Given<'a, 'm> {
         }
     }
 
-    /// What `day` is asked, and of `chart` the same.
-    fn day(self) -> DayWords<'a>
-        ensures { asked result ≡ day_in (words_given self.entry) }
+    /// What `day` is asked, and of `chart` the same, with this longest time where none is given.
+    fn day(self, absent: u64) -> DayWords<'a>
+        ensures { asked result ≡ day_in absent (words_given self.entry) }
     {
         DayWords {
             table: self.text("TABLE", ""),
             date: self.text("DATE", ""),
-            max: self.number("MAX", 1440),
+            max: self.number("MAX", absent),
             anacrontab: self.value("anacrontab"),
             from: self.number("from", 0),
             to: self.number("to", 1440),
@@ -312,7 +315,7 @@ impl<'a, 'm> Given<'a, 'm> {
             ≡ asked_in subcommand.Chart (words_given self.entry) }
     {
         ChartWords {
-            day: self.day(),
+            day: self.day(1440),
             days: self.number("days", 1).min(7) as u8,
             declarations: self.value("declarations"),
         }
@@ -410,6 +413,7 @@ impl<'a, 'm> Given<'a, 'm> {
         Ok(LearnWords {
             table: self.text("TABLE", ""),
             logs: self.values("LOG")?,
+            anacrontab: self.value("anacrontab"),
             factor: self.text("factor", "1.5"),
         })
     }
@@ -458,6 +462,7 @@ impl<'a, 'm> Given<'a, 'm> {
             Subcommand::Advise => Ok(Request::Advise(AdviseWords {
                 judge: self.judge(),
                 within: self.number("within", 120),
+                first: self.optional_number("first"),
             })),
             Subcommand::Room => Ok(Request::Room(self.judge())),
             Subcommand::Run => Ok(Request::Run(self.run())),
@@ -474,7 +479,7 @@ impl<'a, 'm> Given<'a, 'm> {
             Subcommand::Draft => Ok(Request::Draft(self.draft())),
             Subcommand::Learn => Ok(Request::Learn(self.learn()?)),
             Subcommand::Lint => Ok(Request::Lint(self.lint()?)),
-            Subcommand::Day => Ok(Request::Day(self.day())),
+            Subcommand::Day => Ok(Request::Day(self.day(1))),
             Subcommand::Chart => Ok(Request::Chart(self.chart())),
             Subcommand::Replay => Ok(Request::Replay(self.replay())),
             Subcommand::Explain => Ok(Request::Explain(self.value("NAME"))),

@@ -1,4 +1,4 @@
-//! The command line, as `clap` is told of it.
+//! The command line, as `clap` is given it.
 ghost use Rattle.std.specs.Prelude.{◌≡◌, IfOk, false};
 ghost use Rattle.clap.specs.Words.{app_of, rule_of};
 ghost use Rattle.cs_args.specs.CommandLine.{app_of_subcommand, cronsafe_app, named_among, subcommand_named, top_app, with_all};
@@ -90,7 +90,7 @@ fn named_among(subcommands: &[Subcommand], name: &str) -> Option<Subcommand>
     None
 }
 
-/// What `clap` tells of a fault.
+/// What `clap` says of a fault.
 fn error_text(alloc: Global, error: &Error) -> Result<String, AllocError> {
     match error.to_string(alloc) {
         Ok(text) => Ok(text),
@@ -118,7 +118,7 @@ impl Subcommand {
         self.command(alloc)?.render_help()
     }
 
-    /// What is wrong with its words, and its usage, as `clap` tells its own faults.
+    /// What is wrong with its words, and its usage, as `clap` shows its own faults.
     pub(crate) fn fault(self, alloc: Global, message: &str) -> Result<String, AllocError> {
         let error = self
             .command(alloc)?

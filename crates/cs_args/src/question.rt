@@ -9,7 +9,7 @@ use crate::request::DayWords;
 use cs_civil::{CivilFault, Day, Hours, read_day};
 use std::marker::Model;
 
-/// The first day of which `day` tells, 1970-01-04: its windows may begin three days before it.
+/// The first day that `day` shows, 1970-01-04: its windows may begin three days before it.
 const FIRST_DAY: u64 = 3;
 
 /// The longest time that a job may declare: three days, in minutes.

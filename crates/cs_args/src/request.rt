@@ -17,7 +17,7 @@ pub struct DayWords<'a> {
     pub anacrontab: Option<&'a str>,
     /// The first minute of the day at which an anacron job may be started.
     pub from: u64,
-    /// The first minute of the day behind the catch-up hours.
+    /// The first minute of the day after the catch-up hours.
     pub to: u64,
 }
 
@@ -36,9 +36,9 @@ pub struct ReplayWords<'a> {
     pub declarations: Option<&'a str>,
     /// Whether the answer says what the script breaks.
     pub judge: bool,
-    /// Whether the script is the one that a log of `run` tells.
+    /// Whether the script is the one that a log of `run` gives.
     pub log: bool,
-    /// Whether the script that the log tells is shown, and not replayed.
+    /// Whether the script that the log gives is shown, and not replayed.
     pub show_script: bool,
 }
 
@@ -96,7 +96,7 @@ pub struct StopWords<'a> {
 pub struct StatusWords<'a> {
     /// The path of the folder of stamps that the daemon uses.
     pub stamps: &'a str,
-    /// Whether the state is told as JSON, and not for people.
+    /// Whether the state is shown as JSON, and not for people.
     pub json: bool,
 }
 
@@ -128,6 +128,8 @@ pub struct AdviseWords<'a> {
     pub judge: JudgeWords<'a>,
     /// By how many minutes a job may be moved at most, from 1 to 1,439.
     pub within: u64,
+    /// How many changes are enough, 1 at least; all where there is no number.
+    pub first: Option<u64>,
 }
 
 /// What `gather` is asked.
@@ -163,6 +165,8 @@ pub struct LearnWords<'a> {
     pub table: &'a str,
     /// The paths of logs, in order.
     pub logs: Vec<&'a str>,
+    /// The path of an anacrontab.
+    pub anacrontab: Option<&'a str>,
     /// By how much a longest time is to be longer than the longest run, as it is written.
     pub factor: &'a str,
 }
@@ -178,11 +182,11 @@ pub struct LintWords<'a> {
     pub anacrontab: Option<&'a str>,
     /// The path of a file of a time zone.
     pub zone: Option<&'a str>,
-    /// The names of the findings to tell; all where there is none.
+    /// The names of the findings to show; all where there is none.
     pub only: Vec<&'a str>,
     /// The names of the findings to leave out.
     pub except: Vec<&'a str>,
-    /// Whether only faults are told, and nothing that is odd.
+    /// Whether only faults are shown, and nothing that is odd.
     pub faults_only: bool,
 }
 

@@ -58,11 +58,12 @@ static MAKE: [Argument; 4] = [
     Argument("compact", Flag, texts::COMPACT_HELP),
 ];
 
-static ADVISE: [Argument; 4] = [
+static ADVISE: [Argument; 5] = [
     TABLE,
     DECLS,
     ANACRONTAB,
     Argument("within", Value("MINUTES"), texts::WITHIN_HELP),
+    Argument("first", Value("N"), texts::FIRST_HELP),
 ];
 
 static RUN: [Argument; 12] = [
@@ -100,9 +101,10 @@ static DRAFT: [Argument; 5] = [
     Argument("max-from", Value("FILE"), texts::MAX_FROM_HELP),
 ];
 
-static LEARN: [Argument; 3] = [
+static LEARN: [Argument; 4] = [
     TABLE,
     Argument("LOG", Words, texts::LOG_HELP),
+    ANACRONTAB,
     Argument("factor", Value("F"), texts::FACTOR_HELP),
 ];
 
@@ -119,7 +121,7 @@ static LINT: [Argument; 7] = [
 static DAY: [Argument; 6] = [
     TABLE,
     DATE,
-    Argument("MAX", Word, texts::MAX_HELP),
+    Argument("MAX", OptionalWord, texts::MAX_HELP),
     ANACRONTAB,
     FROM,
     TO,

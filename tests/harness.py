@@ -19,8 +19,9 @@ from contextlib import contextmanager
 from functools import cache
 from pathlib import Path
 
-# A draft tells the offset of the time zone.
+# A draft tells the offset of the time zone, and `gather` to which tables others may write.
 os.environ["TZ"] = "UTC"
+os.umask(0o022)
 
 TOP = Path(__file__).resolve().parent.parent
 PROGRAM = TOP / "tests/program"
@@ -32,11 +33,9 @@ NO_CONFLICT = (
 )
 # A fault of a table or of declarations, what may follow it in place of lines that show it, and the
 # first of these.
-FAULT = re.compile(rb"cronsafe: (?:(?:ana)?crontab line (\d+)|declarations): (\d+ [A-Z]\w+.*)")
+FAULT = re.compile(rb"cronsafe: (?:(?!script line ).+ line (\d+)|declarations): (\d+ [A-Z]\w+.*)")
 HINT = re.compile(rb"cronsafe: (the table reads as|the longest time is|--from is)")
 SHOWN = re.compile(rb"(.+?):(\d+):(\d+): fault: (.+)")
-# What is shown of the first line behind a byte order mark, whatever else is wrong with it.
-MARKED = b"6 BadNumber: a byte order mark stands in front: "
 NAME = os.path.relpath(os.path.realpath(sys.argv[0]), TOP)
 
 
@@ -141,8 +140,7 @@ def without_shown(err, text_of, is_declared):
             is_there = fault[1] in (None, b"0", place[2])
             if not is_there or not is_shown(place, lines[1:], text_of(place[1])):
                 raise Fault(f"{place[0]!r} isn't shown: {lines[1:3]}")
-            is_marked = text_of(place[1]).startswith(b"\xef\xbb\xbf") and place[2] == b"1"
-            names.append(place[4].replace(MARKED, fault[2] + b": ") if is_marked else place[4])
+            names.append(place[4])
             del lines[: 4 if lines[3].startswith(b"  line ") else 3]
         is_wanted = fault and not HINT.match(lines[0]) and (fault[1] or is_declared)
         if is_wanted and not any(it.startswith(fault[2] + b": ") for it in names):
@@ -170,7 +168,7 @@ def called(program, words, folder, stdin=b"", seconds=10, is_whole=False, **more
         os.killpg(ran.pid, signal.SIGKILL)
         ran.communicate()
         raise Fault(f"it ran for more than {seconds} seconds") from None
-    if err and words and not is_whole and os.fsencode(words[0]) != b"gather":
+    if err and words and not is_whole:
 
         def text_of(path):
             path = Path(folder, os.fsdecode(path))

@@ -23,7 +23,7 @@ CALLS = {
     b"check": (("TABLE", "DECLS", "CERT"), ("ANACRONTAB",)),
     b"judge": (("TABLE", "DECLS"), ("ANACRONTAB",)),
     b"make": (("TABLE", "DECLS"), ("ANACRONTAB", "compact")),
-    b"advise": (("TABLE", "DECLS"), ("ANACRONTAB", "within")),
+    b"advise": (("TABLE", "DECLS"), ("ANACRONTAB", "within", "first")),
     b"room": (("TABLE", "DECLS"), ("ANACRONTAB",)),
     b"replay": (("TABLE", "SCRIPT"), ("ANACRONTAB", "DECLARATIONS", "max", "judge")),
     b"draft": (("TABLE",), ("ANACRONTAB", "max", "UPDATE")),
@@ -63,7 +63,8 @@ def agrees(told, answer):
 
 
 JOBS_HINT = b"cronsafe: the table reads as an anacrontab: give it with --anacrontab\n"
-# What follows a longest time and hours that are words of the call.
+# What follows a date, a longest time and hours that are words of the call.
+DATE_HINT = b"cronsafe: a date is YYYY-MM-DD, from 1970-01-04 to 9999-12-31, as $(date +%F) prints it\n"
 MAX_HINT = b"cronsafe: the longest time is from 1 to 4320 minutes\n"
 HOURS_HINT = b"cronsafe: --from is from 0 on and below --to, which is at most 1440\n"
 
@@ -251,15 +252,17 @@ class Call:
             raise Fault("declarations", "BadMax")
 
     def day(self, found):
+        self.hint = DATE_HINT
         day = calendar.day_of_text(found["date"])
         if day < calendar.FIRST_START_DAY:
             raise Fault("date", "OutOfRange")
-        self.look_at_max(found["max"])
+        longest, self.hint = found.get("max", 1), b""
+        self.look_at_max(longest)
         hours = found.get("from", 0), found.get("to", DAY)
         if not 0 <= hours[0] < hours[1] <= DAY:
             self.hint = HOURS_HINT
             raise Fault("declarations", "BadHours")
-        return 0, day_answer(*self.read_tables(found), day, found["max"], hours)
+        return 0, day_answer(*self.read_tables(found), day, longest, hours)
 
     def draft(self, found):
         self.look_at_max(found.get("max", 60))

@@ -50,7 +50,7 @@ IsReply (task.Status words) = λ answer. answer ≡ Tells words
 IsReply task.Aid = EndsAs (λ ending. (ending.status ≡ 4) × (ending.out ≡ []))
 
 -- what the files hold leads to what is answered to a call: each reply to it is that, or it is a fault,
--- of which that is told
+-- of which that is reported
 abbrev pub Leads : Asking → (List ℕ → Option (List ℕ)) → List ℕ → Failed → Failed
     → Result Task Trouble → Type 0
 Leads a files w before failed (Ok task) =

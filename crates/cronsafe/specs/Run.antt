@@ -16,7 +16,7 @@ use Rattle.cs_serve.specs.Serve.{Serves}
 use Rattle.cs_ask.specs.Stopping.{Stops}
 use Rattle.cs_ask.specs.Telling.{Tells}
 
--- an ending is carried out, or an order, or a daemon is stopped or reads its files anew, or it's told
+-- an ending is carried out, or an order, or a daemon is stopped or reads its files anew, or it's shown
 -- what it does
 abbrev pub CarriesOut : Answer → Sink → Sink → Sink → Sink → ℕ → Type 0
 CarriesOut (answers.Ends ending) out-old out-new err-old err-new status =

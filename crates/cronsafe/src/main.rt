@@ -15,7 +15,7 @@ use std::process::{ExitCode, Processes};
 use std::rt::Files;
 use std::sync::Wait;
 
-/// What runners are made with, whatever their words: the machine, and where they tell something.
+/// What runners are made with, whatever their words: the machine, and where they report something.
 #[derive(Drop)]
 struct Ground<'x, R> {
     rt: &'x R,

@@ -103,7 +103,7 @@ fn elsewhere(alloc: Global) -> Result<Response, AllocError>
     Ok(Response::no_call(alloc, Vec::from_slice(alloc, text)?))
 }
 
-/// Answers what a call asks of what its files hold. The only error is want of memory.
+/// Answers what a call asks of what its files hold. The only error is out of memory.
 fn answer<'a, R: Threads + Sync>(
     rt: &R,
     alloc: Global,
@@ -129,7 +129,7 @@ fn answer<'a, R: Threads + Sync>(
 
 /// The answer to the words of a call, of which the first is the program's name, once what is to be
 /// warned of was written to standard error. A certificate is checked by the threads of `rt`. The only
-/// error is want of memory.
+/// error is out of memory.
 pub(crate) fn respond<'a, R: Threads + Sync, S: AsStr, I: Inputs, E: Output>(
     rt: &R,
     alloc: Global,

@@ -5,7 +5,7 @@ use Rattle.cs_files.specs.Ending.{Ends, RunsOut, Sink, Tries}
 use Rattle.cs_ask.specs.declared.asking.Refusal.{Refusal}
 use Rattle.cs_ask.specs.declared.asking.Refusal.TheVariants.{Another, NoDaemon, NoFolder, NotAsked, Unanswered, Unlocked, Untold}
 
--- what is said where a daemon doesn't do what it is asked, or its state isn't told, in front of the
+-- what is said where a daemon doesn't do what it is asked, or its state isn't reported, in front of the
 -- folder's path
 abbrev pub in_front_of : Refusal → List ℕ
 in_front_of NoFolder = codes "no folder "
@@ -34,12 +34,12 @@ refused refusal folder = record {
   err = complaint (in_front_of refusal ++ folder);
 }
 
--- it is told, or memory ran out
+-- it is reported, or memory ran out
 abbrev pub Refuses : Refusal → List ℕ → Sink → Sink → Sink → Sink → ℕ → Type 0
 Refuses refusal folder out-old out-new err-old err-new status =
     Ends (refused refusal folder) out-old out-new err-old err-new status
     ⊎ RunsOut out-old out-new err-old err-new status
 
--- a text is told, or nothing
+-- a text is reported, or nothing
 abbrev pub MayTell : List ℕ → Sink → Sink → Type 0
 MayTell text old new = (new ≡ old) ⊎ Tries text old new

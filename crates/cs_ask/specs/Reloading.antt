@@ -7,14 +7,14 @@ use Rattle.cs_files.specs.Ending.{Ends, RunsOut, Sink}
 use Rattle.cs_ask.specs.declared.asking.Refusal.{Refusal}
 use Rattle.cs_ask.specs.declared.asking.Refusal.TheVariants.{Unanswered}
 
--- a daemon's answer: the digit of a status, a newline, and what is told
+-- a daemon's answer: the digit of a status, a newline, and what is said
 abbrev pub reply_text : Status → List ℕ → List ℕ → List ℕ
 reply_text status first second = (48 + status_of status) ∷ 10 ∷ (first ++ second)
 
 abbrev pub answer_awaited : List ℕ
 answer_awaited = codes "cronsafe: waiting for the daemon's answer\n"
 
--- what is told of the text of an answer: what it has, with its status; or that it can't be read, where
+-- what is said of the text of an answer: what it has, with its status; or that it can't be read, where
 -- it is no answer's
 abbrev pub IsToldOf : List ℕ → List ℕ → Ending → Type 0
 IsToldOf folder answer ending =
@@ -28,7 +28,7 @@ abbrev pub IsOutcome : List ℕ → Ending → Type 0
 IsOutcome folder ending = ((refusal : Refusal) × (ending ≡ refused refusal folder))
     ⊎ ((answer : List ℕ) × IsToldOf folder answer ending)
 
--- It may be told that an answer is waited for. Then the outcome is told, or memory ran out.
+-- It may be reported that an answer is waited for. Then the outcome is reported, or memory ran out.
 abbrev pub Reloads : List ℕ → Sink → Sink → Sink → Sink → ℕ → Type 0
 Reloads folder out-old out-new err-old err-new status = (waited : Sink)
     × MayTell answer_awaited err-old waited

@@ -11,14 +11,14 @@ use Rattle.cs_ask.specs.declared.telling.Health.TheVariants.{Fine, Faulty, Old}
 abbrev pub in_front_of_old : List ℕ
 in_front_of_old = codes "no state of the last two minutes in "
 
--- what is answered where a state is told: its text, and by its health a status and a complaint
+-- what is answered where a state is reported: its text, and by its health a status and a complaint
 abbrev pub told_as : Health → List ℕ → List ℕ → Ending
 told_as Fine text folder = record { status = 0; out = text; err = [] }
 told_as Faulty text folder = record { status = 1; out = text; err = [] }
 told_as Old text folder =
     record { status = 2; out = text; err = complaint (in_front_of_old ++ folder) }
 
--- a state is told, or why there is none
+-- a state is reported, or why there is none
 abbrev pub IsAnswer : List ℕ → Ending → Type 0
 IsAnswer folder ending = ((refusal : Refusal) × (ending ≡ refused refusal folder))
     ⊎ ((health : Health) × (text : List ℕ) × (ending ≡ told_as health text folder))

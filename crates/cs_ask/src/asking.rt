@@ -14,7 +14,7 @@ use std::sync::Wait;
 use std::thread;
 use std::time::Duration;
 
-/// Why a daemon doesn't do what it is asked, or its state isn't told.
+/// Why a daemon doesn't do what it is asked, or its state isn't reported.
 #[derive(Clone, Copy)]
 pub(crate) enum Refusal {
     /// There is no such folder of stamps.
@@ -79,7 +79,7 @@ pub(crate) fn find_daemon<R: Files<File = File>>(
     }
 }
 
-/// Tells why a daemon doesn't do what it is asked.
+/// Says why a daemon doesn't do what it is asked.
 pub(crate) fn refuse<O: Output, E: Output>(
     alloc: Global,
     refusal: Refusal,
@@ -103,7 +103,7 @@ pub(crate) fn refuse<O: Output, E: Output>(
 /// How long it takes until a folder is looked at again.
 const MILLISECONDS: u64 = 200;
 
-/// How often a folder is looked at before it's told that there is something to wait for: a daemon
+/// How often a folder is looked at before it's shown that there is something to wait for: a daemon
 /// looks once a second whether it is asked.
 const LOOKS: u32 = 10;
 
@@ -127,7 +127,7 @@ fn wait_a_little<R: Clock, T: Drop, F: Fn() -> Option<T> + Drop>(rt: &R, look: &
     None
 }
 
-/// Looks at a folder until there is something, and tells what it waits for where that takes long.
+/// Looks at a folder until there is something, and says what it waits for where that takes long.
 pub(crate) fn wait_for<R: Clock + Wait, T: Drop, F: Fn() -> Option<T> + Drop, E: Output>(
     rt: &R,
     what: &str,

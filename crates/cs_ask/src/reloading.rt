@@ -79,7 +79,7 @@ fn ask_and_wait<R: Files<File = File> + Clock + Wait, E: Output>(
     text.map_err(|_| Refusal::Unanswered)
 }
 
-/// What is told of a daemon's answer.
+/// What is said of a daemon's answer.
 fn response_to(alloc: Global, folder: &str, text: &[u8]) -> Result<Response, AllocError>
     ensures { IfOk result (IsToldOf folder.now text.now) }
 {

@@ -7,7 +7,7 @@ ghost use Rattle.cs_ask.specs.Reloading.{reply_text};
 use cs_files::Status;
 use std::alloc::{AllocError, Global};
 
-/// A status, and what is told with it.
+/// A status, and what is said with it.
 #[derive(Clone, Copy)]
 pub(crate) struct Reply<'a> {
     pub(crate) status: Status,
@@ -31,7 +31,7 @@ fn status_of_digit(digit: u8) -> Option<Status>
     }
 }
 
-/// The text of an answer: the digit of its status, a newline, and what is told: one text behind
+/// The text of an answer: the digit of its status, a newline, and what is said: one text after
 /// another.
 pub fn reply_text(
     alloc: Global,

@@ -64,7 +64,7 @@ fn ask_and_wait<R: Files<File = File> + Clock + Wait, E: Output>(
 }
 
 /// Asks the daemon of a folder of stamps to stop, waits for its end unless `--now` is given, and gives
-/// the status: 0 stopped, or asked, 2 no daemon uses the folder, 5 want of memory, 6 the folder
+/// the status: 0 stopped, or asked, 2 no daemon uses the folder, 5 out of memory, 6 the folder
 /// can't be used.
 pub fn stop<R: Files<File = File> + Clock + Wait, O: Output, E: Output>(
     rt: &R,

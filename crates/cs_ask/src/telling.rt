@@ -48,7 +48,7 @@ fn complaint_of_age(alloc: Global, folder: &str) -> Result<Bytes, AllocError>
     Ok(Bytes::from_vec(told))
 }
 
-/// What is answered where a state is told.
+/// What is answered where a state is reported.
 fn told_response(
     alloc: Global,
     health: Health,
@@ -99,7 +99,7 @@ fn look<R: Files<File = File>>(rt: &R, alloc: Global, folder: &str) -> Result<Ve
     file.read(rt, alloc).map_err(|_| Refusal::Untold)
 }
 
-/// Tells what the daemon of a folder of stamps does, and gives the status: 0 all is well, 1 a run is
+/// Says what the daemon of a folder of stamps does, and gives the status: 0 all is well, 1 a run is
 /// late or a stamp couldn't be written, 2 no daemon uses the folder or the state is too old, 5 want of
 /// memory, 6 the folder or the state in it can't be used.
 pub fn tell_status<R: Files<File = File> + Clock, O: Output, E: Output>(

@@ -25,7 +25,7 @@ outcome_status outcome.Unsafe = 1
 outcome_status outcome.Unknown = 2
 outcome_status outcome.NoMemory = 5
 
--- the notes on a refusal behind `unknown`: the places of the lines that it names, behind which more
+-- the notes on a refusal after `unknown`: the places of the lines that it names, after which more
 -- may stand, on the jobs that take a lock
 abbrev pub AreRefusalNotes : Declared → List Place → Judged → List ℕ → Type 0
 AreRefusalNotes plan places (Safe checked) notes = notes ≡ []

@@ -58,7 +58,7 @@ DenoteJobs None jobs = jobs ≡ no_jobs
 DenoteJobs (Some bytes) jobs = MeansJobs bytes (Ok jobs)
 
 -- what is given denotes two tables and declarations, which join to this plan; and no entry has other
--- parts than the place of its line tells
+-- parts than the place of its line has
 pub record DenotesPlan (given : Given) (plan : Declared) : Type 0 where
   pub crontab : Table
   pub is_crontab : Means given.crontab (Ok crontab)
@@ -110,7 +110,7 @@ pub record IsOrdered (given : Given) (certificate : List ℕ) (a : AskedRun) (or
       certificate = sha256 certificate;
     }
 
--- the crontab of such a plan was gathered, which is told on standard error alone
+-- the crontab of such a plan was gathered, which is reported on standard error alone
 pub record IsGatheredSchedule (given : Given) (certificate : List ℕ) (ending : Ending) : Type 0
   where
     pub schedule : IsCalmSchedule given certificate
@@ -147,7 +147,7 @@ pub record IsJudgedUnsafe (given : Given) (text : List ℕ) : Type 0 where
   pub unsafe : IsSafe (as_plan plan) (history script.start script.events) → ⊥
   pub first : first_break (as_plan plan) (history script.start script.events) ≡ Some shown
 
--- behind the reason and comments stands what `check` would print of a certificate of version 3 of
+-- after the reason and comments stands what `check` would print of a certificate of version 3 of
 -- the plan: the first rule that it doesn't meet
 pub record IsRefused (plan : Declared) (reason : Reason) (text : List ℕ) : Type 0 where
   pub comments : List (List ℕ)
@@ -158,7 +158,7 @@ pub record IsRefused (plan : Declared) (reason : Reason) (text : List ℕ) : Typ
   pub printed : text ≡ unknown_text reason comments ++ verdict_text plan (Some fault)
 
 -- what is given denotes a plan, and the text is a reason and comments, alone or with such a refusal
--- behind them
+-- after them
 pub record IsJudgedUnknown (given : Given) (text : List ℕ) : Type 0 where
   pub plan : Declared
   pub is_plan : DenotesPlan given plan

@@ -88,6 +88,55 @@ fn put(findings: &mut Vec<Finding>, finding: Finding) -> Done {
     Ok(())
 }
 
+/// Whether words begin with that name and a colon.
+fn is_named(words: &str, name: &str) -> bool {
+    match words.strip_prefix(name) {
+        Some(rest) => rest.starts_with(':'),
+        None => false,
+    }
+}
+
+/// What to write where a fault of a table as a whole has that number and name.
+const ADVICE: [(&str, &str); 7] = [
+    (
+        "1 TooLong",
+        "a line has at most 4,096 bytes, a table 1,048,576: shorten it",
+    ),
+    (
+        "11 NoCommand",
+        "the command is missing: add it after the user",
+    ),
+    (
+        "13 BadUser",
+        "this can't be a user, who stands before the command: add one",
+    ),
+    (
+        "12 TooManyJobs",
+        "a crontab has at most 256 commands: join some in one script",
+    ),
+    (
+        "11 TooManyJobs",
+        "an anacrontab has at most 64 jobs: join some in one script",
+    ),
+    (
+        "9 TwiceNamed",
+        "a line above has this identifier: choose another one",
+    ),
+    (
+        "10 Continued",
+        "continued lines aren't read: write it all on one line",
+    ),
+];
+
+fn advice(name: &str) -> &'static str {
+    for (known, why) in ADVICE {
+        if known == name {
+            return why;
+        }
+    }
+    "see 'cronsafe explain'"
+}
+
 /// What is found in one file. Of it the first [`MAX_TOLD`] are kept, what is wrong before what is
 /// odd and each by place, and the others counted.
 #[derive(Drop)]
@@ -185,6 +234,13 @@ impl Findings {
         false
     }
 
+    /// Drops each fault that doesn't have that name and place.
+    pub(crate) fn keep_named(&mut self, name: &str) {
+        self.more = 0;
+        self.faults
+            .retain(|found| is_named(found.words.as_str(), name));
+    }
+
     /// Whether anything wrong was found.
     pub fn has_faults(&self) -> bool {
         !self.faults.is_empty()
@@ -202,8 +258,8 @@ impl Findings {
         if self.tells(fault) {
             return Ok(());
         }
-        let name = fault.name;
-        let words = format!(in self.alloc; "{name}: see 'cronsafe explain'")?;
+        let (name, why) = (fault.name, advice(fault.name));
+        let words = format!(in self.alloc; "{name}: {why}")?;
         let line = fault.line.max(1);
         let finding = Finding {
             line,

@@ -2,6 +2,9 @@
 //! of a JSON text stand.
 #![tactic(auto)]
 
+mod declared;
+mod declared_fault;
+mod entry;
 mod findings;
 mod front;
 mod json_fault;
@@ -12,11 +15,14 @@ mod object;
 mod outline;
 mod places;
 mod render;
+mod shape;
 mod span;
 
+pub use declared::{Declarations, parts_in};
+pub use declared_fault::declared_lines;
+pub use entry::{Entry, Kind, texts_in};
 pub use findings::{Done, Findings, FirstFault, MAX_TOLD, Note, Words};
 pub use front::TableKind;
-pub use json_fault::{declared_lines, no_json};
 pub use line::{is_word_line, word_after, word_from, words};
 pub use line_fault::{COMMAND, TableLine, find_mark, table_lines};
 pub use names::{meant, nearest, quoted, shown};
@@ -24,4 +30,5 @@ pub use object::Object;
 pub use outline::{Part, parsed, parts, trimmed};
 pub use places::{notes_on, places_in};
 pub use render::File;
+pub use shape::has_meant;
 pub use span::Span;

@@ -89,7 +89,7 @@ impl TableLine<'_> {
         if fault.name == LineFault::BadSetting.text() {
             let (span, why) = bad_setting(line);
             self.fault(findings, span, fault.name, why)?;
-        } else if line.starts_with(b"{".as_slice()) {
+        } else if self.start == 0 && line.starts_with(b"{".as_slice()) {
             let why = "declarations begin so: give the tables before them";
             self.fault(findings, place, fault.name, why)?;
         } else if line.len() > MAX_LINE {
@@ -130,6 +130,7 @@ pub fn table_lines(
     fault: &FirstFault<'_>,
 ) -> Result<Vec<u8>, AllocError> {
     let mut findings = Findings::new(alloc, file.bytes)?;
+    let is_number = fault.name == LineFault::BadNumber.text();
     let start = findings.line_start(fault.line);
     let rest = Span::between(start, file.bytes.len()).bytes(file.bytes);
     let text = if rest.is_empty() {
@@ -139,13 +140,10 @@ pub fn table_lines(
     };
     if fault.line == 0 {
         findings.keep(fault)?;
-    } else if start > 0 || find_mark(&mut findings, file.bytes)? == 0 {
+    } else if start > 0 || !is_number || find_mark(&mut findings, file.bytes)? == 0 {
         TableLine { kind, text, start }.find_fault(&mut findings, fault)?;
     }
     let places = places_in(alloc, file.bytes)?;
     let notes = notes_on(alloc, places.as_slice())?;
-    let mut lines = Vec::from_slice(alloc, b"\n".as_slice())?;
-    findings.tell(file, notes.as_slice(), &mut lines)?;
-    let _newline = lines.pop();
-    Ok(lines)
+    findings.lines(file, notes.as_slice())
 }

@@ -134,4 +134,12 @@ impl Findings {
         }
         Ok(())
     }
+
+    /// What [`tell`](Findings::tell) adds, after a newline and without the last one.
+    pub(crate) fn lines(&self, file: &File<'_>, notes: &[Note]) -> Result<Vec<u8>, AllocError> {
+        let mut lines = Vec::from_slice(self.alloc, b"\n".as_slice())?;
+        self.tell(file, notes, &mut lines)?;
+        let _newline = lines.pop();
+        Ok(lines)
+    }
 }

@@ -12,7 +12,7 @@ pub record Sink : Type 0 where
 abbrev pub sink : Option (List ℕ) → Bool → Sink
 sink contents failed = record { contents = contents; failed = failed }
 
--- the text was written, behind what was there
+-- the text was written, after what was there
 pub record Writes (text : List ℕ) (old new : Sink) : Type 0 where
   pub appended : Appends old.contents new.contents text
   pub fine : new.failed ≡ old.failed

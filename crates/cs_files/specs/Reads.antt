@@ -105,7 +105,7 @@ PlacesIn files path table places = IfSome (files path) (λ bytes. places ≡ pla
 abbrev pub planned : Result Declared DeclaredFault → Result Declared Trouble
 planned plan = result_map_both (λ p. p) (λ fault. InDeclarations (fault, [])) plan
 
--- nothing is read, and a plan is made, or it's told for which fault of declarations there is none
+-- nothing is read, and a plan is made, or it's said for which fault of declarations there is none
 abbrev pub Makes : Result Declared DeclaredFault → Failed → Failed → Result Declared Trouble → Type 0
 Makes (Ok plan) before after r = (after ≡ before) × (r ≡ Ok plan)
 Makes (Err fault) before after r =
@@ -147,7 +147,7 @@ abbrev pub ReadsFitting : (List ℕ → Option (List ℕ)) → List Place → Ta
     → Failed → Result Declared Trouble → Type 0
 ReadsFitting files places tables = ReadsPlan (fitting places tables) files
 
--- bytes mean the value that is given, or have the fault that is told
+-- bytes mean the value that is given, or have the fault that is reported
 abbrev pub MeansIt : {M F : Type 0} → (List ℕ → Result M F → Type 0) → (F → Trouble) → List ℕ
     → Result M Fault → Type 0
 MeansIt means told bytes (Ok m) = means bytes (Ok m)

@@ -44,7 +44,7 @@ pub data Trouble : Type 0 where
   Unread : Text → Reason → Trouble
   InCrontab : (Found LineFault × Bool) × List ℕ → Trouble
   InAnacrontab : Found JobFault × List ℕ → Trouble
-  InGathered : Text → Found SystemFault → Trouble
+  InGathered : Text → Found SystemFault × List ℕ → Trouble
   InDeclarations : DeclaredFault × List ℕ → Trouble
   InScript : ScriptFault → Trouble
   InCertificate : CertFault → Trouble
@@ -55,7 +55,7 @@ abbrev pub crontab_line : Found LineFault → List ℕ
 crontab_line fault =
     codes "crontab line " ++ (decimal fault.line ++ (codes ": " ++ crontab_fault_text fault.fault))
 
--- behind it, where the table reads as an anacrontab
+-- after it, where the table reads as an anacrontab
 abbrev pub jobs_hint : Bool → List ℕ
 jobs_hint true = codes "\ncronsafe: the table reads as an anacrontab: give it with --anacrontab"
 jobs_hint false = []
@@ -87,20 +87,21 @@ abbrev pub script_line : ScriptFault → List ℕ
 script_line fault =
     codes "script line " ++ (decimal fault.0 ++ (codes ": " ++ script_fault_text fault.1))
 
--- behind a fault of the words: what they may be
+-- after a fault of the words: what they may be
 abbrev pub word_hint : WordFault → List ℕ
-word_hint (Date fault) = []
+word_hint (Date fault) =
+    codes "\ncronsafe: a date is YYYY-MM-DD, from 1970-01-04 to 9999-12-31, as $(date +%F) prints it"
 word_hint BadMax = codes "\ncronsafe: the longest time is from 1 to 4320 minutes"
 word_hint BadHours =
     codes "\ncronsafe: --from is from 0 on and below --to, which is at most 1440"
 
--- what is told of it
+-- what is said of it
 abbrev pub trouble_text : Trouble → List ℕ
 trouble_text (InWords fault) = word_fault fault ++ word_hint fault
 trouble_text (Unread path reason) = codes "can't read " ++ (path ++ reason_text reason)
 trouble_text (InCrontab ((fault, are_jobs), lines)) = crontab_line fault ++ (jobs_hint are_jobs ++ lines)
 trouble_text (InAnacrontab (fault, lines)) = anacrontab_line fault ++ lines
-trouble_text (InGathered path fault) = gathered_line path fault
+trouble_text (InGathered path (fault, lines)) = gathered_line path fault ++ lines
 trouble_text (InDeclarations (fault, lines)) = declared_line fault ++ lines
 trouble_text (InScript fault) = script_line fault
 trouble_text (InCertificate fault) = certificate_line fault
@@ -118,7 +119,7 @@ trouble_status (InScript fault) = 3
 trouble_status (InCertificate fault) = 3
 trouble_status (NoTimeZone path) = 3
 
--- what is answered of it, behind what is to be warned of
+-- what is answered of it, after what is to be warned of
 abbrev pub ends : List ℕ → Trouble → Ending
 ends warnings t =
     record { status = trouble_status t; out = []; err = warnings ++ complaint (trouble_text t) }
@@ -128,7 +129,7 @@ abbrev pub lines_in : Option (List ℕ) → List ℕ
 lines_in None = []
 lines_in (Some lines) = lines
 
--- what a fault says with such lines, unless it is want of memory
+-- what a fault says with such lines, unless it is out of memory
 abbrev pub table_trouble : TableFault LineFault → Bool → List ℕ → Option Trouble
 table_trouble (table_fault.At line column size fault) are_jobs lines = Some (InCrontab
     ((record { line = line; column = column; size = size; fault = fault }, are_jobs), lines))
@@ -139,10 +140,10 @@ jobs_trouble (table_fault.At line column size fault) lines = Some
     (InAnacrontab (record { line = line; column = column; size = size; fault = fault }, lines))
 jobs_trouble table_fault.OutOfMemory lines = None
 
-abbrev pub gathered_trouble : Text → TableFault SystemFault → Option Trouble
-gathered_trouble path (table_fault.At line column size fault) =
-    Some (InGathered path (record { line = line; column = column; size = size; fault = fault }))
-gathered_trouble path table_fault.OutOfMemory = None
+abbrev pub gathered_trouble : Text → TableFault SystemFault → List ℕ → Option Trouble
+gathered_trouble path (table_fault.At line column size fault) lines = Some (InGathered path
+    (record { line = line; column = column; size = size; fault = fault }, lines))
+gathered_trouble path table_fault.OutOfMemory lines = None
 
 abbrev pub declared_trouble : DeclError → List ℕ → Option Trouble
 declared_trouble (decl_error.At fault place) lines = Some (InDeclarations ((fault, place), lines))
@@ -161,7 +162,7 @@ trouble (Words fault) = Some (InWords fault)
 trouble (CannotRead path reason) = Some (Unread path.now reason)
 trouble (Crontab fault are_jobs lines) = table_trouble fault are_jobs (lines_in lines)
 trouble (Anacrontab fault lines) = jobs_trouble fault (lines_in lines)
-trouble (Gathered path fault) = gathered_trouble path.now fault
+trouble (Gathered path fault lines) = gathered_trouble path.now fault (lines_in lines)
 trouble (Declarations fault lines) = declared_trouble fault (lines_in lines)
 trouble (Script fault) = script_trouble fault
 trouble (Certificate fault) = certificate_trouble fault
@@ -181,11 +182,11 @@ Says said text = option_map trouble_text said ≡ Some text
 abbrev pub IsUnread : Text → Failed → Reads → Type 0
 IsUnread path failed reads = (failed path ≡ true) ⊎ ((before : Reads) × IsReadOut path before reads)
 
--- it is told that this path can't be read, and perhaps why
+-- it is said that this path can't be read, and perhaps why
 abbrev pub TellsPath : Text → Trouble → Type 0
 TellsPath path t = (reason : Reason) × (t ≡ Unread path reason)
 
--- a call that ends so tells which path was unread
+-- a call that ends so says which path was unread
 pub record TellsUnread (failed : Failed) (reads : Reads) (ending : Ending) : Type 0 where
   pub path : Text
   pub unread : IsUnread path failed reads
@@ -193,7 +194,7 @@ pub record TellsUnread (failed : Failed) (reads : Reads) (ending : Ending) : Typ
   pub reason : Reason
   pub told : ending ≡ ends warnings (Unread path reason)
 
--- the status of a failed device is answered only where a path was unread, which is told
+-- the status of a failed device is answered only where a path was unread, which is reported
 abbrev pub IsHonest : Failed → Reads → Ending → Type 0
 IsHonest failed reads ending = ending.status ≡ 6 → TellsUnread failed reads ending
 

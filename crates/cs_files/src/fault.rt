@@ -35,8 +35,8 @@ pub enum Fault<'a> {
     Crontab(CrontabFault, bool, Option<Bytes>),
     /// The anacrontab holds a fault, and lines that show it.
     Anacrontab(AnacronFault, Option<Bytes>),
-    /// The table at this path, one of those that are gathered, holds a fault.
-    Gathered(&'a str, TableFault<SystemFault>),
+    /// The table at this path, one of those that are gathered, holds a fault, and lines show it.
+    Gathered(&'a str, TableFault<SystemFault>, Option<Bytes>),
     /// The declarations, or the plan that they make of the tables, hold a fault, and lines show it.
     Declarations(DeclError, Option<Bytes>),
     /// The script holds a fault.
@@ -93,7 +93,7 @@ fn line_text(alloc: Global, file: &[u8], line: u32, fault: &str) -> Result<Vec<u
     Ok(text)
 }
 
-/// A name, and what stands behind it.
+/// A name, and what stands after it.
 fn named_text(alloc: Global, name: &[u8], rest: &[u8]) -> Result<Vec<u8>, AllocError>
     ensures { IfOk result (λ text. text.items ≡ name.now ++ rest.now) }
 {
@@ -102,7 +102,7 @@ fn named_text(alloc: Global, name: &[u8], rest: &[u8]) -> Result<Vec<u8>, AllocE
     Ok(text)
 }
 
-/// What is told of a path that can't be read.
+/// What is said of a path that can't be read.
 fn unread_text(alloc: Global, path: &str, reason: Reason) -> Result<Vec<u8>, AllocError>
     ensures { IfOk result (λ text. text.items ≡
         codes "can't read " ++ (path.now ++ reason_text reason)) }
@@ -135,7 +135,7 @@ fn push_lines(text: &mut Vec<u8>, lines: &Option<Bytes>) -> Result<(), AllocErro
     }
 }
 
-/// What is told of a fault of a crontab.
+/// What is said of a fault of a crontab.
 fn crontab_text(
     alloc: Global,
     fault: CrontabFault,
@@ -156,7 +156,7 @@ fn crontab_text(
     }
 }
 
-/// What is told of a fault of an anacrontab.
+/// What is said of a fault of an anacrontab.
 fn anacrontab_text(
     alloc: Global,
     fault: AnacronFault,
@@ -174,24 +174,28 @@ fn anacrontab_text(
     }
 }
 
-/// What is told of a fault of a table that is gathered.
+/// What is said of a fault of a table that is gathered.
 fn gathered_text(
     alloc: Global,
     path: &str,
     fault: TableFault<SystemFault>,
+    lines: &Option<Bytes>,
 ) -> Result<Vec<u8>, AllocError>
-    ensures { IfOk result (λ text. Says (gathered_trouble path.now fault) text.items) }
+    ensures { IfOk result
+        (λ text. Says (gathered_trouble path.now fault (lines_in lines.now)) text.items) }
 {
     match fault {
         TableFault::At { line, fault, .. } => {
             let table = named_text(alloc, path.as_bytes(), b" line ".as_slice())?;
-            line_text(alloc, table.as_slice(), line, fault.text())
+            let mut text = line_text(alloc, table.as_slice(), line, fault.text())?;
+            push_lines(&mut text, lines)?;
+            Ok(text)
         }
         TableFault::OutOfMemory => Err(AllocError),
     }
 }
 
-/// What is told of a fault of a script.
+/// What is said of a fault of a script.
 fn script_text(alloc: Global, fault: ScriptError) -> Result<Vec<u8>, AllocError>
     ensures { IfOk result (λ text. Says (script_trouble fault) text.items) }
 {
@@ -203,7 +207,7 @@ fn script_text(alloc: Global, fault: ScriptError) -> Result<Vec<u8>, AllocError>
     }
 }
 
-/// What is told of a fault of a certificate's text.
+/// What is said of a fault of a certificate's text.
 fn certificate_text(alloc: Global, fault: CertError) -> Result<Vec<u8>, AllocError>
     ensures { IfOk result (λ text. Says (certificate_trouble fault) text.items) }
 {
@@ -215,14 +219,14 @@ fn certificate_text(alloc: Global, fault: CertError) -> Result<Vec<u8>, AllocErr
     }
 }
 
-/// What is told of a file that is no time zone's.
+/// What is said of a file that is no time zone's.
 fn no_zone_text(alloc: Global, path: &str) -> Result<Vec<u8>, AllocError>
     ensures { IfOk result (λ text. text.items ≡ no_zone_line path.now) }
 {
     named_text(alloc, path.as_bytes(), b": no time zone file".as_slice())
 }
 
-/// What is told of a fault of declarations or of a plan.
+/// What is said of a fault of declarations or of a plan.
 fn declared_text(
     alloc: Global,
     fault: &DeclError,
@@ -242,13 +246,18 @@ fn declared_text(
     }
 }
 
-/// What is told of a fault of the words, and what they may be.
+/// What a date may be, and how that of today is given.
+const DATE_HINT: &[u8] =
+    b"\ncronsafe: a date is YYYY-MM-DD, from 1970-01-04 to 9999-12-31, as $(date +%F) prints it";
+
+/// What is said of a fault of the words, and what they may be.
 fn word_text(alloc: Global, fault: WordFault) -> Result<Vec<u8>, AllocError>
     ensures { IfOk result (λ text. text.items ≡ word_fault fault ++ word_hint fault) }
 {
     match fault {
         WordFault::Date(fault) => {
-            named_text(alloc, b"date: ".as_slice(), fault.text().as_bytes())
+            let text = named_text(alloc, b"date: ".as_slice(), fault.text().as_bytes())?;
+            named_text(alloc, text.as_slice(), DATE_HINT)
         }
         WordFault::BadMax => named_text(
             alloc,
@@ -264,7 +273,7 @@ fn word_text(alloc: Global, fault: WordFault) -> Result<Vec<u8>, AllocError>
 }
 
 impl Fault<'_> {
-    /// What is told of it. The only error is want of memory, its own too.
+    /// What is said of it. The only error is out of memory, its own too.
     fn text(&self, alloc: Global) -> Result<Vec<u8>, AllocError>
         ensures { IfOk result (λ text. Says (trouble self.now) text.items) }
     {
@@ -275,7 +284,7 @@ impl Fault<'_> {
                 crontab_text(alloc, *fault, *are_jobs, lines)
             }
             Fault::Anacrontab(fault, lines) => anacrontab_text(alloc, *fault, lines),
-            Fault::Gathered(path, fault) => gathered_text(alloc, path, *fault),
+            Fault::Gathered(path, fault, lines) => gathered_text(alloc, path, *fault, lines),
             Fault::Declarations(fault, lines) => declared_text(alloc, fault, lines),
             Fault::Script(fault) => script_text(alloc, *fault),
             Fault::Certificate(fault) => certificate_text(alloc, *fault),
@@ -294,7 +303,7 @@ impl Fault<'_> {
             Fault::Words(_) => Status::BadInput,
             Fault::Crontab(_, _, _) => Status::BadInput,
             Fault::Anacrontab(_, _) => Status::BadInput,
-            Fault::Gathered(_, _) => Status::BadInput,
+            Fault::Gathered(_, _, _) => Status::BadInput,
             Fault::Declarations(_, _) => Status::BadInput,
             Fault::Script(_) => Status::BadInput,
             Fault::Certificate(_) => Status::BadInput,
@@ -302,7 +311,7 @@ impl Fault<'_> {
         }
     }
 
-    /// What is answered of it, behind what is to be warned of.
+    /// What is answered of it, after what is to be warned of.
     #[tactic(auto, using(crate::proofs::TroubleLemmas::is_ending))]
     pub fn response(&self, alloc: Global, warnings: &[u8]) -> Result<Response, AllocError>
         ensures { IfOk result (λ r. option_map (ends warnings.now) (trouble self.now) ≡ Some r) }

@@ -1,4 +1,4 @@
-//! The plan of a gathered table, whose comments tell which parts a command has.
+//! The plan of a gathered table, whose comments say which parts a command has.
 ghost use Rattle.std.specs.Prelude.{◌≡◌, ◌&&◌, bytes_eq, position};
 ghost use Rattle.std.specs.List.{list_all, list_any};
 ghost use Rattle.cs_decl.specs.Join.{is_named};
@@ -36,7 +36,7 @@ fn have_names(parts: &[PartEntry], names: &[Bytes]) -> bool
     parts.len() == names.len() && all_are_among(names, parts)
 }
 
-/// Whether the place of the line tells parts, and others than these.
+/// Whether the place of the line has parts, and others than these.
 fn tells_others(places: &[Place], line: &Line, parts: &[PartEntry]) -> bool
     ensures { result ≡ tells_others parts.now (place_of places.now line.now.number) }
 {
@@ -49,7 +49,7 @@ fn tells_others(places: &[Place], line: &Line, parts: &[PartEntry]) -> bool
     }
 }
 
-/// Whether the place of the entry's line tells parts, and others than those of the entry.
+/// Whether the place of the entry's line has parts, and others than those of the entry.
 fn are_told_otherwise(places: &[Place], lines: &[Line], entry: &CronEntry) -> bool
     ensures { result ≡ list_any (λ line. is_named entry.now.name line
         && tells_others entry.now.parts (place_of places.now line.number)) lines.now }
@@ -64,7 +64,7 @@ fn has_other_parts(places: &[Place], lines: &[Line], entry: &CronEntry) -> bool
     !entry.parts.is_empty() && are_told_otherwise(places, lines, entry)
 }
 
-/// The index of the first entry that has parts, and other ones than the place of its line tells.
+/// The index of the first entry that has parts, and other ones than the place of its line has.
 fn first_with_other_parts(places: &[Place], lines: &[Line], entries: &[CronEntry]) -> Option<usize>
     ensures { result ≡ position (has_other_parts places.now lines.now) entries.now }
 {
@@ -75,7 +75,7 @@ fn first_with_other_parts(places: &[Place], lines: &[Line], entries: &[CronEntry
 
 /// Joins tables and declarations to a plan, as [`join`] does. The last fault is
 /// [`OtherParts`](DeclFault::OtherParts), of the first entry that has other parts than the place of
-/// its line tells.
+/// its line has.
 pub(crate) fn join_placed(
     alloc: Global,
     table: Crontab,

@@ -91,7 +91,7 @@ fn are_named(jobs: &[Job]) -> bool
 }
 
 /// Whether the bytes are those of an anacrontab that has jobs, the identifier of each with a letter.
-/// The only error is want of memory.
+/// The only error is out of memory.
 pub fn are_jobs(alloc: Global, bytes: &[u8]) -> Result<bool, AllocError>
     ensures { IfOk result (HoldsJobs bytes.now) }
 {

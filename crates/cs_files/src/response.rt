@@ -93,7 +93,7 @@ impl Response {
         }
     }
 
-    /// The version is asked for. The only error is want of memory.
+    /// The version is asked for. The only error is out of memory.
     pub fn version(alloc: Global) -> Result<Response, AllocError>
         ensures { IfOk result (λ r. r ≡ done version_text []) }
     {
@@ -112,7 +112,7 @@ impl Response {
         }
     }
 
-    /// A script was replayed: what is told of it, whether an event was refused, and what is to be warned of.
+    /// A script was replayed: what is said of it, whether an event was refused, and what is to be warned of.
     pub fn replayed(text: Vec<u8>, refused: bool, warnings: Bytes) -> Response
         ensures { result
             ≡ record { status = if refused then 1 else 0; out = text.items; err = warnings } }
@@ -140,7 +140,7 @@ impl Response {
         }
     }
 
-    /// A plan was judged: the status, what is told of it, and the notes on it.
+    /// A plan was judged: the status, what is said of it, and the notes on it.
     pub fn told(status: Status, text: Vec<u8>, notes: Bytes) -> Response
         ensures { result ≡ record { status = status_of status; out = text.items; err = notes } }
     {
@@ -151,7 +151,7 @@ impl Response {
         }
     }
 
-    /// A fault ended the call with this status, behind what is to be warned of.
+    /// A fault ended the call with this status, after what is to be warned of.
     pub fn fault(
         alloc: Global,
         status: Status,
@@ -169,7 +169,7 @@ impl Response {
     }
 }
 
-/// The line of a fault behind what is to be warned of.
+/// The line of a fault after what is to be warned of.
 #[tactic(auto, unfolding(crate::specs::Response::complaint))]
 fn complaint_behind(alloc: Global, warnings: &[u8], fault: &[u8]) -> Result<Bytes, AllocError>
     ensures { IfOk result (λ text. text ≡ warnings.now ++ complaint fault.now) }

@@ -6,7 +6,7 @@ use cs_anacrontab::{AnacronFault, JobFault};
 use cs_civil::Bytes;
 use cs_crontab::{LineFault, TableFault as CrontabFault};
 use cs_diagnostics::{File, FirstFault, TableKind, declared_lines, table_lines};
-use cs_plan::{DeclError, DeclFault, Place};
+use cs_plan::DeclError;
 use std::alloc::{AllocError, Global};
 
 /// The lines that show the first fault of a crontab, which is that text.
@@ -53,39 +53,6 @@ pub(crate) fn anacrontab_lines(
     Ok(Some(Bytes::from_vec(lines)))
 }
 
-/// The list of declarations to which a place belongs, with the place of its entry in it, counted from
-/// 0; and what to do about a fault there.
-fn advice(
-    place: &Option<Place>,
-    has_jobs: bool,
-    is_startup: bool,
-) -> (&'static str, Option<usize>, &'static str) {
-    let lint = "'cronsafe lint' says what to write";
-    match place {
-        Some(Place::Group(index)) => ("groups", Some(*index), lint),
-        Some(Place::Cron(index)) => ("cron", Some(*index), lint),
-        Some(Place::Anacron(index)) => {
-            let why = if has_jobs {
-                lint
-            } else {
-                "no anacrontab with jobs is given: use --anacrontab FILE"
-            };
-            ("anacron", Some(*index), why)
-        }
-        Some(Place::LeftOut(index)) => ("left_out", Some(*index), lint),
-        Some(Place::Line(_)) => {
-            let why = if is_startup {
-                "put this line of the crontab into \"left_out\""
-            } else {
-                "add an entry for this line of the crontab"
-            };
-            ("cron", None, why)
-        }
-        Some(Place::Job(_)) => ("anacron", None, "add an entry for this job"),
-        None => ("", None, lint),
-    }
-}
-
 /// The lines that show a fault of declarations, which are that text.
 fn lines_of(
     alloc: Global,
@@ -94,15 +61,10 @@ fn lines_of(
     has_jobs: bool,
     error: &DeclError,
 ) -> Result<Option<Bytes>, AllocError> {
-    let DeclError::At { fault, place } = error else {
-        return Ok(None);
-    };
-    let is_startup = *fault == DeclFault::RebootLine;
-    let (list, index, why) = advice(place, has_jobs, is_startup);
-    let name = error.text(alloc)?;
-    let file = File { path, bytes };
-    let lines = declared_lines(alloc, &file, (list, index), name.as_slice(), why)?;
-    Ok(Some(Bytes::from_vec(lines)))
+    match declared_lines(alloc, &File { path, bytes }, error, has_jobs)? {
+        Some(lines) => Ok(Some(Bytes::from_vec(lines))),
+        None => Ok(None),
+    }
 }
 
 /// A fault of declarations, which are that text, with the lines that show it: where an entry is for a

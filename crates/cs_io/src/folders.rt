@@ -53,6 +53,10 @@ pub trait Folders: Inputs {
         ensures fails { IfErr result (λ e. IsCannotRead e
             → Self.failed self.new path.now ≡ true) };
 
+    /// Whether others than its owner may write to what a path leads to, as the machine says: one of the
+    /// bits 0o022 of its mode is set.
+    fn is_open_to_others(&self, path: &str) -> bool;
+
     /// The names in a folder in the order of their bytes, `None` if there is nothing at its path.
     fn names(&mut self, alloc: Global, path: &str) -> Result<Option<Sequence<Bytes>>, ReadFault>
         ensures value { IfOk result (λ found. IfSome (tree.names path.now)

@@ -64,9 +64,13 @@ impl<'a, R: Files + Input> Machine<'a, R> {
         Ok(n)
     }
 
-    fn kind_at(&self, path: &str) -> io::Result<FileKind> {
+    fn found_at(&self, path: &str) -> io::Result<Metadata> {
         let file = self.behind_links(path)?;
-        let found = fs::metadata(self.rt, text_or(&file, path))?;
+        fs::metadata(self.rt, text_or(&file, path))
+    }
+
+    fn kind_at(&self, path: &str) -> io::Result<FileKind> {
+        let found = self.found_at(path)?;
         if found.is_file() {
             return Ok(file_kind(&found));
         }
@@ -188,6 +192,13 @@ impl<'a, R: Files + Input> Folders for Machine<'a, R> {
                     Err(fault_of(&error))
                 }
             },
+        }
+    }
+
+    fn is_open_to_others(&self, path: &str) -> bool {
+        match self.found_at(path) {
+            Ok(found) => found.permissions().mode() & 0o022 != 0,
+            Err(_) => false,
         }
     }
 

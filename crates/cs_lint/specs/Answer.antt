@@ -26,7 +26,7 @@ abbrev pub IfAllKnown : (List ℕ → Option (List ℕ)) → AskedLint
 IfAllKnown files a R = IfSome (files a.table) (λ table. IfKnown files a.anacrontab (λ jobs.
     IfKnown files a.declarations (λ declarations. R table jobs declarations)))
 
--- all that was found is told on standard output alone, and the status judges the files
+-- all that was found is reported on standard output alone, and the status judges the files
 abbrev pub IsLinted : List ℕ → Option (List ℕ) → Option (List ℕ) → Ending → Type 0
 IsLinted table jobs declarations ending =
     (ending.err ≡ []) × Judges ending.status table jobs declarations
@@ -63,7 +63,7 @@ AreNamed words = list_any (λ word. is_some (no_name_in word)) words ≡ false
 abbrev pub IsNoName : List Text → Text → Type 0
 IsNoName words name = (word : Text) × Contains words word × (no_name_in word ≡ Some name)
 
--- it is told that the file of a time zone is none
+-- it is reported that the file of a time zone is none
 abbrev pub TellsZone : Option Text → Trouble → Type 0
 TellsZone path t = (zone : Text) × (path ≡ Some zone) × (t ≡ NoTimeZone zone)
 
@@ -71,14 +71,14 @@ TellsZone path t = (zone : Text) × (path ≡ Some zone) × (t ≡ NoTimeZone zo
 abbrev pub HasNoZone : (List ℕ → Option (List ℕ)) → Option Text → Type 0
 HasNoZone files path = IfKnown files path (λ zone. IfSome zone IsNoZone)
 
--- it is told which file can't be read, or that the file of the time zone is none
+-- it is reported which file can't be read, or that the file of the time zone is none
 abbrev pub IsUnreadable : AskedLint → (List ℕ → Option (List ℕ)) → Failed → Failed → Trouble
     → Type 0
 IsUnreadable a files before after t = ((path : Text) × TellsPath path t)
     ⊎ ((after ≡ before) × TellsZone a.zone t × IfShort files a (HasNoZone files a.zone))
 
 -- what is answered of all files: what was found in them, where the status is 3 exactly where their
--- readers refuse them, and isn't 1 where faults alone are told; or which of them can't be read, or
+-- readers refuse them, and isn't 1 where faults alone are reported; or which of them can't be read, or
 -- that the file of the time zone is none
 abbrev pub LintsFiles : AskedLint → (List ℕ → Option (List ℕ)) → Failed → Failed → Ending
     → Type 0
@@ -100,12 +100,12 @@ AnswersLint a files before after ending =
 abbrev pub IsUnreadFile : Fault → Type 0
 IsUnreadFile fault = IfSome (trouble fault) (λ t. (path : Text) × TellsPath path t)
 
--- it is told that the file of a time zone can't be read, or is none
+-- it is reported that the file of a time zone can't be read, or is none
 abbrev pub IsUnreadZone : Option Text → Failed → Failed → Fault → Type 0
 IsUnreadZone path before after fault = IfSome (trouble fault)
     (λ t. ((unread : Text) × TellsPath unread t) ⊎ ((after ≡ before) × TellsZone path t))
 
--- it isn't told falsely that it is none
+-- it isn't said falsely that it is none
 abbrev pub IsTrueOf : (List ℕ → Option (List ℕ)) → Option Text → Fault → Type 0
 IsTrueOf files path fault =
     IfSome (trouble fault) (λ t. TellsZone path t → HasNoZone files path)
@@ -114,7 +114,7 @@ IsTrueOf files path fault =
 abbrev pub IsSomeUpTo : Option (List ℕ) → Option (List ℕ) → Type 0
 IsSomeUpTo held text = (held ≡ text) ⊎ (IsLong held × IsLong text)
 
--- what was read of both tables; an anacrontab behind a table that is too long may be another one
+-- what was read of both tables; an anacrontab after a table that is too long may be another one
 abbrev pub AreHeldTables : AskedLint → (List ℕ → Option (List ℕ)) → List ℕ → Option (List ℕ)
     → Type 0
 AreHeldTables a files table jobs =

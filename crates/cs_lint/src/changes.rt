@@ -20,14 +20,14 @@ pub(crate) struct Change {
     pub(crate) is_forward: bool,
     /// The first of them, by the clocks of the zone.
     pub(crate) first: Minute,
-    /// The first behind them.
+    /// The first after them.
     pub(crate) end: Minute,
 }
 
 /// So many transitions are looked at: two years, where there is summer time.
 const TRANSITIONS: usize = 4;
 
-/// The first minute that begins at this second of clocks or behind it, so far ahead of UTC, if it is
+/// The first minute that begins at this second of clocks or after it, so far ahead of UTC, if it is
 /// a civil minute.
 fn minute_from(second: i64, offset: i32) -> Option<Minute> {
     let number = (i128::from(second) + i128::from(offset) + 59).div_euclid(60);

@@ -25,8 +25,8 @@ impl Change {
         false
     }
 
-    /// What is told of it: its date and minutes, and what cron then does with a command whose minute
-    /// field begins with `*` or not. The only error is want of memory.
+    /// What is said of it: its date and minutes, and what cron then does with a command whose minute
+    /// field begins with `*` or not. The only error is out of memory.
     fn words(&self, alloc: Global, starred: bool) -> Words {
         let (first, end) = (date_text(self.first), date_text(self.end));
         let on = str::from_utf8(&first[..10]).unwrap_or("");
@@ -62,7 +62,7 @@ fn first_met<'c>(
 /// Adds the changes that a command at that place meets: where it isn't due each hour, the first one
 /// each way.
 ///
-/// It's told where the command is due in minutes that a change skips or shows twice, with the date,
+/// It's shown where the command is due in minutes that a change skips or shows twice, with the date,
 /// the minutes and what Debian's cron then does: a line whose minute is fixed it runs once, and one
 /// with `*` in front of its minute as the clocks show (its `cron(8)`). A change of three hours or
 /// more isn't one of summer time.

@@ -1,136 +1,8 @@
-//! The objects of declarations: of which kind each is, and where it stands.
+//! What is found in declarations, as far as it's wanted.
 use crate::wanted::Wanted;
-use cs_diagnostics::{Done, Findings, Object, Span, parts, shown};
-use cs_plan::DeclFault;
-use indexmap::{IndexMap, IndexSet};
-use serde_json::Value;
-use std::alloc::{AllocError, Global};
+use cs_diagnostics::{Done, Entry, Findings, Span, parts_in, quoted};
+use indexmap::IndexSet;
 use std::fmt::Display;
-
-/// A kind of object of declarations: the whole of them, or what stands in a member of it.
-#[derive(Clone, Copy, PartialEq, Eq)]
-pub(crate) enum Kind {
-    Whole,
-    Default,
-    Group,
-    Cron,
-    /// A part of an entry of `cron`, which has the place of that entry.
-    Part,
-    Anacron,
-    LeftOut,
-}
-
-/// Of each kind the member in which it stands, what its place is called, what it is called, and the
-/// members that it may have.
-const TEXTS: [[&str; 4]; 7] = [
-    [
-        "",
-        "",
-        "the declarations",
-        "anacron capacity cron default groups hours left_out note offset pass",
-    ],
-    ["default", "", "\"default\"", "max note weight"],
-    [
-        "groups",
-        "group",
-        "this entry of \"groups\"",
-        "exclusive name note",
-    ],
-    [
-        "cron",
-        "cron",
-        "this entry of \"cron\"",
-        "command group guess line max mode note parts weight when",
-    ],
-    ["parts", "cron", "this entry of \"parts\"", "max name note"],
-    [
-        "anacron",
-        "anacron",
-        "this entry of \"anacron\"",
-        "group guess id max note weight",
-    ],
-    [
-        "left_out",
-        "left_out",
-        "this entry of \"left_out\"",
-        "command line note when",
-    ],
-];
-
-impl Kind {
-    /// What is said of it: the member of the whole in which it stands, what its place is called,
-    /// what it is called, and the members that it may have.
-    pub(crate) fn texts(self) -> [&'static str; 4] {
-        TEXTS[self as usize]
-    }
-}
-
-/// An object of declarations, or what stands in place of one.
-#[derive(Drop)]
-pub(crate) struct Entry<'v> {
-    pub(crate) kind: Kind,
-    /// Its place in its list, counted from 0.
-    pub(crate) index: usize,
-    pub(crate) place: Span,
-    pub(crate) is_object: bool,
-    /// Its members; none where it's no object.
-    pub(crate) object: Object<'v>,
-}
-
-impl<'v> Entry<'v> {
-    /// That of a value of a text, which stands there.
-    pub(crate) fn new(
-        alloc: Global,
-        bytes: &[u8],
-        (kind, index): (Kind, usize),
-        part: (&'v Value, Span),
-    ) -> Result<Entry<'v>, AllocError> {
-        Ok(Entry {
-            kind,
-            index,
-            place: part.1,
-            is_object: part.0.is_object(),
-            object: Object::new(alloc, bytes, part)?,
-        })
-    }
-
-    /// The text that it has in a member, if it's of that kind, and where it stands.
-    pub(crate) fn text(&self, kind: Kind, member: &str) -> Option<(&'v str, Span)> {
-        if self.kind == kind {
-            self.object.text(member)
-        } else {
-            None
-        }
-    }
-
-    /// Adds those of the list of that kind that it has; parts have its place in its own list.
-    pub(crate) fn push_list(
-        &self,
-        alloc: Global,
-        bytes: &[u8],
-        kind: Kind,
-        entries: &mut Vec<Entry<'v>>,
-    ) -> Done {
-        let [list, ..] = kind.texts();
-        let Some((value, span)) = self.object.member(list) else {
-            return Ok(());
-        };
-        let Some(items) = value.as_array() else {
-            return Ok(());
-        };
-        let places = parts(alloc, bytes, span)?;
-        for (index, (part, value)) in places.iter().zip(items.iter()).enumerate() {
-            let index = if kind == Kind::Part {
-                self.index
-            } else {
-                index
-            };
-            let entry = Entry::new(alloc, bytes, (kind, index), (value, part.value))?;
-            entries.push(entry)?;
-        }
-        Ok(())
-    }
-}
 
 /// What is found in declarations, which are those bytes.
 #[derive(Drop)]
@@ -141,73 +13,39 @@ pub(crate) struct Tell<'w> {
 }
 
 impl Tell<'_> {
-    /// Adds a fault of an entry, with its place as the readers of declarations tell it.
-    pub(crate) fn fault(
-        &mut self,
-        entry: &Entry<'_>,
-        span: Span,
-        fault: DeclFault,
-        why: impl Display + Drop,
-    ) -> Done {
-        let ([_, place, _, _], number) = (entry.kind.texts(), entry.index.saturating_add(1));
-        if place.is_empty() || fault == DeclFault::BadShape {
-            return self.findings.fault(span, format_args!("{fault}: {why}"));
-        }
-        let at = format_args!("{fault} at {place} {number}");
-        self.findings.fault(span, format_args!("{at}: {why}"))
-    }
-
-    /// Adds something odd of that name, where it's told.
+    /// Adds something odd of that name, where it's shown.
     pub(crate) fn odd(&mut self, span: Span, name: &str, why: impl Display + Drop) -> Done {
         self.wanted.odd(&mut self.findings, span, name, why)
     }
 
-    /// Adds that something of an entry has an entry before it.
-    pub(crate) fn twice(
-        &mut self,
-        entry: &Entry<'_>,
-        span: Span,
-        what: impl Display + Drop,
-    ) -> Done {
-        let fault = match entry.kind {
-            Kind::Part => DeclFault::BadParts,
-            _ => DeclFault::TwiceDeclared,
-        };
-        let why = "has an entry already: remove one of the two";
-        self.fault(entry, span, fault, format_args!("{what} {why}"))
-    }
-
-    /// Adds which entries of a kind have a text in a member that one before them has.
-    pub(crate) fn find_twice(
-        &mut self,
-        entries: &[Entry<'_>],
-        (kind, member, called): (Kind, &str, &str),
-    ) -> Done {
-        let mut seen = IndexSet::new(self.findings.alloc);
-        for entry in entries {
-            if let Some((text, span)) = entry.text(kind, member) {
-                if !seen.insert(text)? {
-                    let text = shown(self.findings.alloc, span.bytes(self.bytes))?;
-                    self.twice(entry, span, format_args!("the {called} {text}"))?;
-                }
+    /// Adds which members an entry has more than once.
+    pub(crate) fn find_again(&mut self, entry: &Entry<'_>) -> Done {
+        let mut counted = IndexSet::new(self.findings.alloc);
+        for (name, part) in entry.object.members.iter().rev() {
+            let name = name.as_str();
+            if !counted.insert(name)? {
+                let text = quoted(self.findings.alloc, name)?;
+                let why = "is given again later, and only the last one counts: remove one";
+                self.odd(part.name, "", format_args!("{text} {why}"))?;
             }
         }
         Ok(())
     }
-}
 
-/// The texts that entries of a kind have in a member, each with the place where it last stands.
-pub(crate) fn texts_in<'v>(
-    alloc: Global,
-    entries: &[Entry<'v>],
-    kind: Kind,
-    member: &str,
-) -> Result<IndexMap<&'v str, Span>, AllocError> {
-    let mut texts = IndexMap::new(alloc);
-    for entry in entries {
-        if let Some((text, span)) = entry.text(kind, member) {
-            texts.insert(text, span)?;
+    fn find_again_in_parts(&mut self, entry: &Entry<'_>) -> Done {
+        let parts = parts_in(self.findings.alloc, self.bytes, entry)?;
+        for part in parts.iter() {
+            self.find_again(part)?;
         }
+        Ok(())
     }
-    Ok(texts)
+
+    /// The same of each of some entries, and of their parts.
+    pub(crate) fn find_again_in(&mut self, entries: &[Entry<'_>]) -> Done {
+        for entry in entries {
+            self.find_again(entry)?;
+            self.find_again_in_parts(entry)?;
+        }
+        Ok(())
+    }
 }

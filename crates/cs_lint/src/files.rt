@@ -93,7 +93,7 @@ impl Found {
         })
     }
 
-    /// Adds why the files are refused, where nothing tells it yet.
+    /// Adds why the files are refused, where nothing says it yet.
     fn keep(&mut self, refusal: &Refusal) -> Done {
         match refusal {
             Refusal::Table(first) => self.table.keep(first),
@@ -152,13 +152,13 @@ impl Found {
 /// Everything that is wrong or odd in a crontab, an anacrontab and declarations, as far as there
 /// are any, of which their readers answer that; and whether something in it is odd.
 ///
-/// The text tells the findings of the crontab, then those of the anacrontab, then those of the
+/// The text has the findings of the crontab, then those of the anacrontab, then those of the
 /// declarations, each as [`Findings::tell`] does, and where it's about a line of a gathered table
 /// with the place that the line comes from. What is wrong begins with the fault's number and name,
-/// as the readers answer it. Not only the first fault is told: of a line each field and each
+/// as the readers answer it. Not only the first fault is reported: of a line each field and each
 /// item by itself, of declarations each member and each entry, and of both what doesn't fit
-/// together. What is odd is told as far as it's wanted. A table of more than 1 MiB isn't looked at
-/// any further. The only error is want of memory.
+/// together. What is odd is reported as far as it's wanted. A table of more than 1 MiB isn't looked at
+/// any further. The only error is out of memory.
 pub(crate) fn told_of(
     alloc: Global,
     request: &LintWords<'_>,

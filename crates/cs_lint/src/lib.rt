@@ -12,7 +12,6 @@ mod odd_lines;
 mod parts;
 mod planned;
 mod refusal;
-mod shape;
 mod table;
 mod wanted;
 

@@ -1,11 +1,10 @@
 //! The lines of the crontab that entries name: by number, by command or by both.
 use crate::declared::Declared;
-use crate::entry::{Entry, Kind};
 use crate::parts::find_moved;
 use crate::table::{Begun, Table};
 use cs_crontab::When;
 use cs_decl::{is_same_when, named_when};
-use cs_diagnostics::{Done, Span, Words, shown};
+use cs_diagnostics::{Done, Entry, Kind, Span, Words, shown};
 use cs_place::place_of;
 use cs_plan::{DeclFault, MAX_MINUTES};
 use cs_schedule::least_gap;
@@ -14,22 +13,15 @@ use std::alloc::Global;
 /// How far into two commands they are told from their beginnings.
 const MAX_FRONT: usize = 40;
 
-impl<'v> Entry<'v> {
-    /// Whether it names lines of the crontab.
-    fn names_lines(&self) -> bool {
-        self.kind == Kind::Cron || self.kind == Kind::LeftOut
+/// The number and the command of an entry, where the line of that number has none or another one.
+fn apart<'v>(entry: &Entry<'v>, table: &Table<'_>) -> Option<(i128, &'v str)> {
+    if !entry.names_lines() {
+        return None;
     }
-
-    /// Its number and command, where the line of that number has none or another one.
-    fn apart(&self, table: &Table<'_>) -> Option<(i128, &'v str)> {
-        if !self.names_lines() {
-            return None;
-        }
-        let ((number, _), (told, _)) = (self.object.whole("line")?, self.object.text("command")?);
-        match table.begun_on(number) {
-            Some(begun) if begun.may_be(told) => None,
-            _ => Some((number, told)),
-        }
+    let ((number, _), (told, _)) = (entry.object.whole("line")?, entry.object.text("command")?);
+    match table.begun_on(number) {
+        Some(begun) if begun.may_be(told) => None,
+        _ => Some((number, told)),
     }
 }
 
@@ -38,7 +30,7 @@ impl<'v> Entry<'v> {
 fn first_apart<'v>(entries: &[Entry<'v>], table: &Table<'_>) -> Option<(i128, &'v str)> {
     let (mut first, mut are_many): (Option<(i128, &'v str)>, bool) = (None, false);
     for entry in entries {
-        if let Some((number, told)) = entry.apart(table) {
+        if let Some((number, told)) = apart(entry, table) {
             let least = match first {
                 Some((least, _)) => least,
                 None => i128::MAX,
@@ -122,7 +114,7 @@ impl Shift {
 fn first_to_tell<'e, 'v>(entries: &'e [Entry<'v>], table: &Table<'_>) -> Option<&'e Entry<'v>> {
     let mut first = None;
     for entry in entries {
-        if let Some((number, _)) = entry.apart(table) {
+        if let Some((number, _)) = apart(entry, table) {
             if table.begun_on(number).is_none() {
                 return Some(entry);
             }
@@ -169,7 +161,10 @@ impl<'v> Declared<'v> {
                 self.left_out.insert(line)?;
             }
             if !self.lines.insert(line)? {
-                return self.tell.twice(entry, span, format_args!("line {line}"));
+                return self
+                    .tell
+                    .findings
+                    .twice(entry, span, format_args!("line {line}"));
             }
         }
         if !table.is_whole {
@@ -177,7 +172,7 @@ impl<'v> Declared<'v> {
         }
         if entry.object.whole("line").is_none() {
             self.find_nowhere(entry, table)?;
-        } else if shift.is_none() || entry.apart(table).is_none() {
+        } else if shift.is_none() || apart(entry, table).is_none() {
             self.find_apart(entry, table, None)?;
         }
         match begun {
@@ -200,11 +195,14 @@ impl<'v> Declared<'v> {
                 let advice = "add the \"line\" that is meant";
                 let why = format_args!("lines {first} and {last} have it: {advice}");
                 self.tell
-                    .fault(entry, span, DeclFault::AmbiguousCommand, why)
+                    .findings
+                    .fault_of(entry, span, DeclFault::AmbiguousCommand, why)
             }
             None if table.is_read && self.tell.findings.takes_fault(span) => {
                 let why = "no line has this command: correct it, or remove this entry";
-                self.tell.fault(entry, span, DeclFault::NoSuchLine, why)
+                self.tell
+                    .findings
+                    .fault_of(entry, span, DeclFault::NoSuchLine, why)
             }
             _ => Ok(()),
         }
@@ -220,7 +218,8 @@ impl<'v> Declared<'v> {
             (None, _) if self.tell.findings.takes_fault(span) => {
                 let why = lineless_words(alloc, table, line, advice)?;
                 self.tell
-                    .fault(entry, span, DeclFault::NoSuchLine, why.as_str())
+                    .findings
+                    .fault_of(entry, span, DeclFault::NoSuchLine, why.as_str())
             }
             (Some(begun), Some((told, span))) if !begun.may_be(told) => {
                 let (is, told) = (begun.name.unwrap_or(&[]), told.as_bytes());
@@ -231,13 +230,15 @@ impl<'v> Declared<'v> {
                 let advice = advice.unwrap_or("correct \"line\" or \"command\"");
                 let why = format_args!("line {line} has `{dots}{is}`, not `{dots}{told}`");
                 let why = format_args!("{why}: {advice}");
-                self.tell.fault(entry, span, DeclFault::OtherCommand, why)
+                self.tell
+                    .findings
+                    .fault_of(entry, span, DeclFault::OtherCommand, why)
             }
             _ => Ok(()),
         }
     }
 
-    /// Adds that the line of an entry has another schedule than it tells, that runs of its command
+    /// Adds that the line of an entry has another schedule than it says, that runs of its command
     /// may overlap, and which parts came or went.
     fn look_beside(&mut self, entry: &Entry<'v>, begun: &Begun<'_>, table: &Table<'_>) -> Done {
         let may_be = match entry.object.text("command") {
@@ -252,7 +253,7 @@ impl<'v> Declared<'v> {
             match named_when(self.tell.findings.alloc, told)? {
                 Some(told) if may_be && !is_same_when(&told, when) => {
                     let why = format_args!("line {} has another schedule: {advice}", begun.number);
-                    self.tell.fault(entry, span, fault, why)?;
+                    self.tell.findings.fault_of(entry, span, fault, why)?;
                 }
                 _ => {}
             }
@@ -289,7 +290,7 @@ impl<'v> Declared<'v> {
         }
     }
 
-    /// Adds that entries name their lines by number alone, where others tell commands.
+    /// Adds that entries name their lines by number alone, where others have commands.
     fn find_unbound(&mut self, entries: &[Entry<'v>]) -> Done {
         let (mut first, mut number, mut is_any_bound) = (None, 0usize, false);
         for entry in entries {

@@ -28,7 +28,7 @@ const MONTH_STEP: [&str; 2] =
 /// Weekdays as tables of six fields have them.
 const DAYS: [&[u8]; 7] = [b"SUN", b"MON", b"TUE", b"WED", b"THU", b"FRI", b"SAT"];
 
-/// Whether the command behind five fields begins with what reads as a sixth one: `?`, a weekday in
+/// Whether the command after five fields begins with what reads as a sixth one: `?`, a weekday in
 /// capitals, or numbers, beginning with a digit or `*`.
 fn has_sixth(line: &[u8]) -> bool {
     let word = word_after(line, 5).bytes(line);
@@ -74,7 +74,7 @@ fn uneven(line: &[u8], number: usize, round: u32, texts: [&'static str; 2]) -> O
 }
 
 /// The byte at which the first `%` stands that no backslash escapes, or the end; and in front of it
-/// the last `#` behind a blank, if no quote, backquote or backslash stands behind it.
+/// the last `#` after a blank, if no quote, backquote or backslash stands after it.
 fn ends_in(command: &[u8]) -> (usize, Option<usize>) {
     let (mut comment, mut last) = (None, 0u8);
     for (at, byte) in command.iter().enumerate() {
@@ -89,7 +89,7 @@ fn ends_in(command: &[u8]) -> (usize, Option<usize>) {
     (command.len(), comment)
 }
 
-/// Whether a `$` stands in front of a name or a `{`, and whether a `#` stands behind a blank.
+/// Whether a `$` stands in front of a name or a `{`, and whether a `#` stands after a blank.
 fn marks_in(value: &[u8]) -> (bool, bool) {
     let (mut has_variable, mut has_comment, mut last) = (false, false, 0u8);
     for byte in value {

@@ -1,56 +1,11 @@
 //! The parts of a command that run-parts(8) runs, as an entry of `cron` declares them.
-use crate::entry::{Entry, Kind, Tell, texts_in};
-use crate::shape::find_in_entry;
-use cs_diagnostics::{Done, Span, quoted, shown};
+use crate::entry::Tell;
+use cs_diagnostics::{Done, Entry, Kind, Span, parts_in, quoted, shown, texts_in};
 use cs_place::Place;
-use cs_plan::{DeclFault, MAX_MINUTES};
 use indexmap::{IndexMap, IndexSet};
-use std::alloc::{AllocError, Global};
 
 /// What to do about a part that came or went.
 const ADVICE: &str = "as 'cronsafe draft --update' does";
-
-/// The parts that an entry of `cron` lists, if it lists any.
-fn parts_in<'v>(
-    alloc: Global,
-    bytes: &[u8],
-    entry: &Entry<'v>,
-) -> Result<Vec<Entry<'v>>, AllocError> {
-    let mut parts = Vec::new(alloc);
-    if entry.kind == Kind::Cron {
-        entry.push_list(alloc, bytes, Kind::Part, &mut parts)?;
-    }
-    Ok(parts)
-}
-
-/// Adds what is wrong with the parts of an entry, each by itself and all together.
-pub(crate) fn find_in_parts(tell: &mut Tell<'_>, entry: &Entry<'_>) -> Done {
-    let parts = parts_in(tell.findings.alloc, tell.bytes, entry)?;
-    let mut minutes = Some(0i128);
-    for part in parts.iter() {
-        find_in_entry(tell, part)?;
-        minutes = match (minutes, part.object.whole("max")) {
-            (Some(sum), Some((max, _))) if 1 <= max && max <= i128::from(MAX_MINUTES) => {
-                Some(sum.saturating_add(max))
-            }
-            _ => None,
-        };
-    }
-    tell.find_twice(parts.as_slice(), (Kind::Part, "name", "part"))?;
-    let (Some(minutes), Some((max, span))) = (minutes, entry.object.whole("max")) else {
-        return Ok(());
-    };
-    if parts.is_empty() || minutes <= max {
-        return Ok(());
-    }
-    let sum = format_args!("the parts add up to {minutes}");
-    if minutes > i128::from(MAX_MINUTES) {
-        let why = format_args!("{sum}, and \"max\" is at most {MAX_MINUTES}: lower theirs");
-        return tell.fault(entry, span, DeclFault::BadParts, why);
-    }
-    let why = format_args!("{sum}: set \"max\" to at least {minutes}, or correct a part");
-    tell.fault(entry, span, DeclFault::BadParts, why)
-}
 
 /// Adds which parts of an entry the line of a place has no more, and which it has besides, where
 /// it's known that the entry has no others.

@@ -25,11 +25,11 @@ pub(crate) struct Held {
     max: u16,
     /// The minutes that its own timeout(1) allows it; without one, the same.
     allowed: u64,
-    /// Whether it's the first whose entry tells a command of several lines and no schedule.
+    /// Whether it's the first whose entry has a command of several lines and no schedule.
     is_untimed: bool,
 }
 
-/// The commands of a plan, in order of line. The only error is want of memory.
+/// The commands of a plan, in order of line. The only error is out of memory.
 pub(crate) fn held_in(alloc: Global, plan: &Plan) -> Result<Vec<Held>, AllocError> {
     let mut all = Vec::new(alloc);
     let mut number = 0u16;
@@ -161,7 +161,7 @@ impl Held {
 }
 
 /// Whether a command that is started at startup may take the lock of a group that one of all others
-/// takes. The only error is want of memory.
+/// takes. The only error is out of memory.
 pub(crate) fn may_take(alloc: Global, all: &[Held], command: &[u8]) -> Result<bool, AllocError> {
     if all.is_empty() {
         return Ok(false);

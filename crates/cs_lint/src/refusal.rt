@@ -28,7 +28,7 @@ pub(crate) enum Refusal {
 pub(crate) struct Looked {
     /// The plan, if there are declarations; or why they refuse the files.
     pub(crate) plan: Result<Option<Plan>, Refusal>,
-    /// The number of the line whose command seems to stand behind a user, if one does.
+    /// The number of the line whose command seems to stand after a user, if one does.
     pub(crate) user: Option<u32>,
 }
 

@@ -27,7 +27,7 @@ use std::fmt::Display;
 pub(crate) struct Beside<'a> {
     /// The places of its lines, if it was gathered.
     pub(crate) places: &'a [Place],
-    /// The number of the line whose command seems to stand behind a user, if one does.
+    /// The number of the line whose command seems to stand after a user, if one does.
     pub(crate) user: Option<u32>,
     /// The commands of its plan, if there is one.
     pub(crate) commands: &'a [Held],

@@ -1,8 +1,8 @@
-//! Which odd findings are told.
+//! Which odd findings are reported.
 use cs_diagnostics::{Done, Findings, Span};
 use std::fmt::Display;
 
-/// Which odd findings are told, by words of names that `cronsafe explain` lists, in capital or small
+/// Which odd findings are reported, by words of names that `cronsafe explain` lists, in capital or small
 /// letters, with commas between them. A finding without a name has the empty one. Faults are always
 /// told.
 #[derive(Clone, Copy)]
@@ -37,13 +37,13 @@ fn have_name(words: &[&str], name: &str) -> bool {
 }
 
 impl Wanted<'_> {
-    /// Whether an odd finding of that name is told.
+    /// Whether an odd finding of that name is reported.
     pub(crate) fn tells(&self, name: &str) -> bool {
         let is_asked = self.only.is_empty() || have_name(self.only, name);
         !self.faults_only && is_asked && !have_name(self.except, name)
     }
 
-    /// Adds something odd of that name, where it's told, and why it's odd.
+    /// Adds something odd of that name, where it's shown, and why it's odd.
     pub(crate) fn odd(
         &self,
         findings: &mut Findings,

@@ -1,5 +1,5 @@
 -- What a call comes to: an answer that ends it, an order to run tables, or words to stop a daemon,
--- to have it read its files anew or to tell what it does.
+-- to have it read its files anew or to show what it does.
 use Rattle.std.specs.Prelude.{◌≡◌, ◌⊎◌, ℕ, Bool, true, false, List, [], Option, Ok, Err, codes, ⊤}
 use Rattle.cs_place.specs.Mark.{is_gathered}
 use Rattle.cs_report.specs.Warning.{plan_notes}
@@ -50,7 +50,7 @@ pub record IsOrder (a : AskedRun) (x : Claimed) (order : Order) : Type 0 where
 abbrev pub gathered_fault : List ℕ
 gathered_fault = codes "crontab: GatheredTable: run can't start commands as other users"
 
--- `check` would answer `safe`, but the crontab was gathered, which is told
+-- `check` would answer `safe`, but the crontab was gathered, which is reported
 pub record IsOfOthers (x : Claimed) (ending : Ending) : Type 0 where
   pub checked : Checked
   pub accepted : IsAccepted x checked

@@ -20,7 +20,7 @@ pub enum Answer<'a> {
     Stops(StopWords<'a>),
     /// A daemon is to read its files anew: the path of the folder of stamps that it uses.
     Reloads(&'a str),
-    /// It is to be told what a daemon does.
+    /// It is to be shown what a daemon does.
     Tells(StatusWords<'a>),
 }
 
@@ -39,7 +39,7 @@ pub struct Order<'a> {
 
 impl Order<'_> {
     /// What is answered where what is at this path can't be used, such as the folder of the stamps:
-    /// why, in front of the path. The only error is want of memory.
+    /// why, in front of the path. The only error is out of memory.
     pub fn without(&self, alloc: Global, why: &str, path: &str) -> Result<Response, AllocError>
         ensures { IfOk result (λ r. r ≡ record {
           status = 6;

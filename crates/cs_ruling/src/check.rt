@@ -62,7 +62,7 @@ fn certificate_in<'a>(alloc: Global, bytes: &[u8]) -> Result<(Certificate, [u8; 
 }
 
 /// The certificate that the file at a path denotes, and the SHA-256 (FIPS 180-4) of the file's
-/// bytes. The errors: the file can't be read, its bytes denote none, or want of memory.
+/// bytes. The errors: the file can't be read, its bytes denote none, or out of memory.
 fn certificate_from<'a, I: Inputs>(
     alloc: Global,
     inputs: &mut I,
@@ -205,7 +205,7 @@ fn acceptance(alloc: Global, plan: &Plan) -> Result<Response, AllocError>
     Ok(Response::done(text, plan_notes(alloc, plan)?))
 }
 
-/// Answers `check TABLE DECLS CERT [--anacrontab FILE]`. The only error is want of memory.
+/// Answers `check TABLE DECLS CERT [--anacrontab FILE]`. The only error is out of memory.
 pub fn answer_check<R: Threads + Sync>(
     rt: &R,
     alloc: Global,

@@ -25,7 +25,7 @@ pub fn refuse_gathered(alloc: Global) -> Result<Response, AllocError>
 /// Answers `run TABLE DECLS CERT STAMPS [--anacrontab FILE] [--minutes N] [--log FILE]
 /// [--output FOLDER] [--keep N] [--home] [--on-overrun COMMAND] [--on-failure COMMAND]`: like
 /// `check` where that doesn't answer `safe`, else with what to run, but with a fault where the
-/// crontab was gathered. The only error is want of memory.
+/// crontab was gathered. The only error is out of memory.
 pub fn answer_run<'a, R: Threads + Sync>(
     rt: &R,
     alloc: Global,

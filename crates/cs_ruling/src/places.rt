@@ -1,4 +1,4 @@
-//! Where the lines that a refusal names come from, and what is told beside it.
+//! Where the lines that a refusal names come from, and what is said beside it.
 ghost use Rattle.std.specs.Prelude.{◌≡◌, ◌++◌, IfOk, OnOk};
 ghost use Rattle.cs_theorem.specs.Told.{told};
 ghost use Rattle.cs_ruling.specs.Check.{fault_places, jobs_of, stale_note, stale_text};

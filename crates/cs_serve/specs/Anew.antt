@@ -21,7 +21,7 @@ pub record IsOrderOf (a : AskedRun) (order : Order) : Type 0 where
   pub own : is_of_gathered order.checked ≡ false
 
 -- what is accepted of what files hold: their plan and their certificate, with the digests of the files,
--- and what is to be warned of, with the notes on the plan behind it
+-- and what is to be warned of, with the notes on the plan after it
 pub record IsTaken (x : Claimed) (checked : Checked) (taken : Digests) (warned : List ℕ)
     : Type 0 where
   pub plan : plan_in checked ≡ x.planned.plan
@@ -39,7 +39,7 @@ rejected_status NoLog = 6
 rejected_status NoOutput = 6
 rejected_status NoMemory = 5
 
--- what is told of it: of an answer what it has for standard error, and then the rest
+-- what is said of it: of an answer what it has for standard error, and then the rest
 abbrev pub rejected_text : Rejection → List ℕ
 rejected_text (Answered ending) = ending.err ++ ending.out
 rejected_text StandardInput = codes "cronsafe: can't read standard input again\n"

@@ -1,4 +1,4 @@
--- What a daemon tells of the jobs of its plan.
+-- What a daemon says of the jobs of its plan.
 use Rattle.std.specs.Prelude.{ℕ, Bool, not, ◌&&◌, ◌||◌, if◌then◌else◌, List, [], ◌++◌, codes, drop, flat_map, length, slice_get, Option, None, Some, option_and_then}
 use Rattle.cs_crontab.specs.Crontab.{CommandLine}
 use Rattle.cs_crontab.specs.declared.table.When.{When}
@@ -17,7 +17,7 @@ may_meet p late other =
     rivals p late other && ((is_cron p late || is_cron p other)
     && not (takes_lock p late && takes_lock p other))
 
--- the name of such a job, behind a comma
+-- the name of such a job, after a comma
 abbrev pub peer : Declared → ℕ → ℕ → List ℕ
 peer d late other =
     if may_meet (as_plan d) late other then codes ", " ++ job_name d other else []

@@ -42,7 +42,7 @@ named NoHome order = codes "/etc/passwd"
 named NoLog order = unwrap_or (option_map (λ path. path.now) order.words.log) []
 named NoOutput order = unwrap_or (option_map (λ path. path.now) order.words.output) []
 
--- that is told behind the warnings
+-- that is reported after the warnings
 abbrev pub unserved : Obstacle → Order → Ending
 unserved obstacle order = record {
   status = 6;
@@ -50,7 +50,7 @@ unserved obstacle order = record {
   err = order.warnings ++ complaint (in_front obstacle ++ named obstacle order);
 }
 
--- what a clock and a store of stamps have told: the clock's last answer, its greatest minute, how
+-- what a clock and a store of stamps have said: the clock's last answer, its greatest minute, how
 -- many of its answers were a minute later than all before, and how often each of the two failed
 pub record Tellings : Type 0 where
   pub last : Option Tick
@@ -59,7 +59,7 @@ pub record Tellings : Type 0 where
   pub clock_failures : ℕ
   pub stamp_failures : ℕ
 
--- new ones have told nothing
+-- new ones have said nothing
 abbrev pub no_tellings : Tellings
 no_tellings = record { last = None; top = 0; risen = 0; clock_failures = 0; stamp_failures = 0 }
 
@@ -95,7 +95,7 @@ cause_status ClockFailed = 6
 cause_status HistoryFull = 1
 cause_status NoMemory = 5
 
--- what is told of it, where it isn't that the clock stopped
+-- what is said of it, where it isn't that the clock stopped
 abbrev pub farewell : Cause → List ℕ
 farewell Stopped = []
 farewell LastMinute = codes "cronsafe: the last minute of 9999 has come\n"
@@ -104,7 +104,7 @@ farewell ClockFailed = codes "cronsafe: can't read the clock\n"
 farewell HistoryFull = codes "cronsafe: the history is full\n"
 farewell NoMemory = codes "cronsafe: out of memory\n"
 
--- the daemon is run with these devices until it ends, and why it ended is told and is the status; of
+-- the daemon is run with these devices until it ends, and why it ended is reported and is the status; of
 -- what it writes to standard output nothing is said
 pub record IsServedBy (checked : Checked) (before after : Tellings) (err-old err-new : Sink)
     (status : ℕ) : Type 0 where
@@ -118,24 +118,24 @@ abbrev pub IsServed : Order → Sink → Sink → ℕ → Type 0
 IsServed order err-old err-new status =
     (after : Tellings) × IsServedBy order.checked no_tellings after err-old err-new status
 
--- the warnings are told first
+-- the warnings are reported first
 abbrev pub IsServedBehind : Order → Sink → Sink → ℕ → Type 0
 IsServedBehind order err-old err-new status =
     (warned : Sink) × Tries order.warnings err-old warned × IsServed order warned err-new status
 
--- the warnings are told, and then that memory ran out
+-- the warnings are reported, and then that memory ran out
 abbrev pub RunsOutBehind : Order → Sink → Sink → ℕ → Type 0
 RunsOutBehind order err-old err-new status = (status ≡ 5)
     × ((warned : Sink) × Tries order.warnings err-old warned
     × Tries (codes "cronsafe: out of memory\n") warned err-new)
 
--- it isn't served, which is told behind the warnings; or memory ran out
+-- it isn't served, which is reported after the warnings; or memory ran out
 abbrev pub Refuses : Obstacle → Order → Sink → Sink → Sink → Sink → ℕ → Type 0
 Refuses obstacle order out-old out-new err-old err-new status =
     Ends (unserved obstacle order) out-old out-new err-old err-new status
     ⊎ ((out-new ≡ out-old) × RunsOutBehind order err-old err-new status)
 
--- it isn't served, which is told behind the warnings; or memory ran out, and nothing is run; or it was
+-- it isn't served, which is reported after the warnings; or memory ran out, and nothing is run; or it was
 -- run
 abbrev pub ServesOne : Order → Sink → Sink → Sink → Sink → ℕ → Type 0
 ServesOne order out-old out-new err-old err-new status =
@@ -154,7 +154,7 @@ abbrev pub IsFollowed : Order → Sink → Sink → Order → Type 0
 IsFollowed order err-old err-new next =
     IsServedBehind order err-old err-new 0 × IsOrderOf (asked_run order.words) next
 
--- An order comes behind others, the last of them first: each was followed by the one after it. The
+-- An order comes after others, the last of them first: each was followed by the one after it. The
 -- first of all is this one, with these two outputs.
 abbrev pub ComesBehind : Order → Sink → Sink → List Order → Order → Sink → Sink → Type 0
 ComesBehind first out-first err-first [] order out err =

@@ -57,7 +57,7 @@ pub record IsOrdered (checked : Checked) (k : Keeping) : Type 0 where
 -- ---- by the status
 
 -- The clock said to stop: each minute later than all before but the first brought an event, so there
--- is a keep if there was a second. Or the last minute has come, which is told, and there is a keep.
+-- is a keep if there was a second. Or the last minute has come, which is reported, and there is a keep.
 abbrev pub IsDone : Tellings → DaemonEnd → Sink → Sink → Type 0
 IsDone after end old new =
     ((after.last ≡ Some Stop) × (after.risen ≤ events_in end.keep + 1)
@@ -65,12 +65,12 @@ IsDone after end old new =
     ⊎ ((after.last ≡ Some (At last_minute)) × (end.keep ≢ None)
     × Tries (codes "cronsafe: the last minute of 9999 has come\n") old new)
 
--- there is a keep, the history of which is full, and that is told
+-- there is a keep, the history of which is full, and that is reported
 abbrev pub IsFull : DaemonEnd → Sink → Sink → Type 0
 IsFull end old new =
     (end.keep ≢ None) × Tries (codes "cronsafe: the history is full\n") old new
 
--- the clock couldn't be read, or went back, which is told
+-- the clock couldn't be read, or went back, which is reported
 abbrev pub HasNoClock : Tellings → Sink → Sink → Type 0
 HasNoClock after old new =
     ((0 < after.clock_failures) × Tries (codes "cronsafe: can't read the clock\n") old new)

@@ -25,7 +25,7 @@ use std::{fs, io};
 #[derive(Drop)]
 pub(crate) struct Accepted {
     checked: Checked,
-    /// What is to be warned of, and behind it the notes on the plan.
+    /// What is to be warned of, and after it the notes on the plan.
     pub(crate) warnings: Bytes,
     digests: Digests,
     ghost own: { is_of_gathered checked ≡ false },
@@ -63,7 +63,7 @@ impl Rejection {
         }
     }
 
-    /// What is told then, one text behind another.
+    /// What is said then, one text after another.
     pub(crate) fn texts(&self) -> (&[u8], &[u8])
         ensures { result.0.now ++ result.1.now ≡ rejected_text self.now }
     {
@@ -138,7 +138,7 @@ fn rejected_by(answer: Result<Response, AllocError>) -> Rejection {
     }
 }
 
-/// What is to be warned of, and behind it the notes on the plan.
+/// What is to be warned of, and after it the notes on the plan.
 fn told_of(alloc: Global, plan: &Plan) -> Result<Bytes, AllocError>
     ensures { IfOk result (λ text.
         text ≡ warnings plan.now.crontab plan.now.anacrontab ++ plan_notes plan.now) }

@@ -13,7 +13,7 @@ use std::rt::{Clock, Files};
 use std::sync::{Mutex, Wait};
 
 /// A hand that writes to a log to which others write too, with what runners have left for it, and
-/// keeps the file of the state that the log tells.
+/// keeps the file of the state that the log gives.
 #[derive(Drop)]
 pub(crate) struct Hand<'a, 'r, R, W> {
     rt: &'a R,
@@ -115,7 +115,7 @@ pub(crate) fn setup_of<'a>(order: &Order<'a>, jobs: &'a [JobNote]) -> Setup<'a> 
     }
 }
 
-/// These texts, one behind another.
+/// These texts, one after another.
 fn joined(alloc: Global, texts: &[&[u8]]) -> Result<Vec<u8>, AllocError> {
     let mut line = Vec::new(alloc);
     for text in texts {
@@ -220,7 +220,7 @@ pub(crate) fn closing(cause: Cause) -> &'static [u8] {
     line.as_bytes()
 }
 
-/// That the minutes behind the one and up to the other belong to no plan.
+/// That the minutes after the one and up to the other belong to no plan.
 pub(crate) fn gap_line(alloc: Global, latest: Minute, now: Minute) -> Result<Vec<u8>, AllocError> {
     let (latest, now) = (date_text(latest), date_text(now));
     let front = b"no plan after ".as_slice();

@@ -72,7 +72,7 @@ pub(crate) fn call_hooks<R: Files + Clock + Wait + Processes, W: Write>(
     streams: Streams<'_>,
     hand: &mut Hand<'_, '_, R, W>,
 ) {
-    // the log is free again behind this line
+    // the log is free again after this line
     let calls = hand.log.lock(rt).take_calls();
     for call in calls {
         let Some(command) = command_for(words, &call) else {

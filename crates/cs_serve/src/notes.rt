@@ -1,4 +1,4 @@
-//! What a daemon tells of the jobs of its plan.
+//! What a daemon says of the jobs of its plan.
 ghost use Rattle.std.specs.Prelude.{◌≡◌, ◌<◌, ◌++◌, IfOk, OnOk, drop, length, map, option_and_then, slice_get};
 ghost use Rattle.cs_plan.specs.Plan.{as_plan};
 ghost use Rattle.cs_history.specs.Lists.{below};
@@ -26,7 +26,7 @@ fn may_meet(plan: &Plan, late: usize, other: usize) -> bool
         && !(one.mode().takes_lock() && peer.mode().takes_lock())
 }
 
-/// Adds the name of a job, behind a comma, if its runs may meet a late run of the other.
+/// Adds the name of a job, after a comma, if its runs may meet a late run of the other.
 fn push_peer(
     alloc: Global,
     text: &mut Vec<u8>,
@@ -45,7 +45,7 @@ fn push_peer(
     push_job_name(alloc, text, plan, other)
 }
 
-/// What stands behind the first comma and its blank; nothing of an empty text.
+/// What stands after the first comma and its blank; nothing of an empty text.
 fn behind_comma(text: &[u8]) -> &[u8]
     ensures { result.now ≡ drop 2 text.now }
 {
@@ -92,7 +92,7 @@ fn note(alloc: Global, plan: &Plan, number: usize) -> Result<JobNote, AllocError
     })
 }
 
-/// What a daemon tells of each job of its plan, in their order. The only error is out of memory.
+/// What a daemon says of each job of its plan, in their order. The only error is out of memory.
 #[tactic(auto, using(crate::proofs::Peers::more_notes))]
 pub(crate) fn notes_of(alloc: Global, plan: &Plan) -> Result<Vec<JobNote>, AllocError>
     ensures { IfOk result

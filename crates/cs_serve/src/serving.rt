@@ -57,7 +57,7 @@ fn status_for(cause: Cause) -> Status
     }
 }
 
-/// What is told of a run that ended so.
+/// What is said of a run that ended so.
 fn farewell(cause: Cause) -> &'static str
     ensures { result.now ≡ farewell cause }
 {
@@ -71,7 +71,7 @@ fn farewell(cause: Cause) -> &'static str
     }
 }
 
-/// Tells why an order isn't served, behind what is to be warned of.
+/// Says why an order isn't served, after what is to be warned of.
 fn refuse<O: Output, E: Output>(
     alloc: Global,
     order: Order<'_>,
@@ -95,7 +95,7 @@ fn refuse<O: Output, E: Output>(
     }
 }
 
-/// Tells that memory ran out before anything was run, behind what is to be warned of.
+/// Says that memory ran out before anything was run, after what is to be warned of.
 fn run_out_unserved<E: Output>(order: Order<'_>, err: &mut E) -> Status
     ensures { RunsOutBehind order.entry
         (sink (E.contents err.old) (E.failed err.old))
@@ -154,7 +154,7 @@ fn serve_by<
     (status_for(cause), cause)
 }
 
-/// What is served behind an order, and the clock that goes on.
+/// What is served after an order, and the clock that goes on.
 #[derive(Drop)]
 struct Next<'a, R> {
     order: Order<'a>,
@@ -181,7 +181,7 @@ fn note_gap<R: Clock + Wait, W: Write>(
     }
 }
 
-/// What is served behind these words, if a plan was accepted and the daemon has stopped for it.
+/// What is served after these words, if a plan was accepted and the daemon has stopped for it.
 fn next_of<'a, R: Clock + Wait, W: Write>(
     alloc: Global,
     cause: Cause,
@@ -318,7 +318,7 @@ fn serve_one<
     let number = order.checked.plan().capacity();
     let setup = RunnerWords {
         has_home: words.home,
-        // a log without times doesn't tell signals
+        // a log without times doesn't show signals
         tells_signals: words.log.is_some(),
         output: words.output,
         keep: words.keep.unwrap_or(KEPT),
@@ -348,7 +348,7 @@ fn serve_one<
     }
 }
 
-/// Runs an order until it ends, and then each that comes behind it, unless the daemon is asked to
+/// Runs an order until it ends, and then each that comes after it, unless the daemon is asked to
 /// stop by then.
 fn serve_in_turn<
     'x,
@@ -436,7 +436,7 @@ fn enter<'r, 'f, R: Files<File = File> + Clock>(
 
 /// Runs what is ordered until it ends, and gives the status: nothing is run unless its folder of
 /// stamps is there and can be locked for as long as it runs. Where the daemon is asked to reload, and
-/// accepts what its files hold then, that is run behind it. What is to be warned of and why it ended
+/// accepts what its files hold then, that is run after it. What is to be warned of and why it ended
 /// goes to standard error.
 pub fn serve<
     R: Threads + Wait + Sync + Files<File = File> + Input + Clock + Processes,

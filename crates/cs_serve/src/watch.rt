@@ -13,7 +13,7 @@ use std::rt::{Clock, Files};
 use std::sync::Wait;
 use std::{io, mem};
 
-/// The files by which a daemon is asked, answers and tells its state.
+/// The files by which a daemon is asked, answers and shows its state.
 #[derive(Drop)]
 pub(crate) struct DaemonFiles<'f> {
     pub(crate) stop: RequestFile,
@@ -42,7 +42,7 @@ impl<'f> DaemonFiles<'f> {
 }
 
 /// Looks for the files by which its daemon is asked, keeps the file of the daemon's state, calls hooks,
-/// and writes down what runners and a clock tell.
+/// and writes down what runners and a clock report.
 #[derive(Drop)]
 pub(crate) struct Watch<'a, 'r, R, W> {
     rt: &'a R,
@@ -100,7 +100,7 @@ impl<'a, 'r, R: Files + Clock + Wait, W: Write> Watch<'a, 'r, R, W> {
         false
     }
 
-    /// Answers who asked to reload. Whether that could be told.
+    /// Answers who asked to reload. Whether that could be reported.
     fn answer(&mut self, status: Status, first: &[u8], second: &[u8]) -> bool {
         let is_written = match reply_text(self.alloc, status, first, second) {
             Ok(text) => self.files.answer.replace(self.rt, text.as_slice()).is_ok(),
@@ -115,7 +115,7 @@ impl<'a, 'r, R: Files + Clock + Wait, W: Write> Watch<'a, 'r, R, W> {
         is_written && is_removed
     }
 
-    /// Takes an accepted plan, and answers with what is to be warned of, unless that can't be told.
+    /// Takes an accepted plan, and answers with what is to be warned of, unless that can't be reported.
     fn take(&mut self, accepted: Accepted) -> bool {
         if !self.answer(Status::Done, accepted.warnings.as_slice(), b"") {
             self.hand.note(b"can't answer, the old plan goes on");
@@ -128,7 +128,7 @@ impl<'a, 'r, R: Files + Clock + Wait, W: Write> Watch<'a, 'r, R, W> {
         true
     }
 
-    /// Notes why the files aren't accepted, and tells it to who asked. No new plan is accepted then.
+    /// Notes why the files aren't accepted, and answers so to who asked. No new plan is accepted then.
     fn reject(&mut self, rejection: &Rejection) -> bool {
         self.hand.note(b"reload refused, the old plan goes on");
         let (first, second) = rejection.texts();

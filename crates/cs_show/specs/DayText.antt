@@ -22,7 +22,7 @@ days_apart days side =
 unfoldable pub start_text : Window → List ℕ
 start_text w = clock w.from ++ days_apart w.day_back (codes "before")
 
--- where a window ends, by the first minute behind it, counted from the start of the printed day
+-- where a window ends, by the first minute after it, counted from the start of the printed day
 unfoldable pub end_text : ℕ → List ℕ
 end_text end =
     if nat_le end 1440 then clock end

@@ -1,4 +1,4 @@
--- What `replay` tells of the events of a script.
+-- What `replay` says of the events of a script.
 use Rattle.std.specs.Prelude.{ℕ, Bool, true, false, ◌||◌, List, [], ◌∷◌, ◌++◌, length, codes, decimal, is_err, Option, Some, None, Result, Ok, Err}
 use Rattle.cs_civil.specs.Text.{minute_text}
 use Rattle.cs_history.specs.Plan.{Plan}

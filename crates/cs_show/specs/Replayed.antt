@@ -51,12 +51,12 @@ abbrev pub MeansLog : Declared → List ℕ → Result Numbered ScriptFault → 
 MeansLog plan log meaning = (script : Option (List ℕ)) × IsToldBy log script
     × MeansTold plan script meaning
 
--- with `--judge` a script may be what `judge` prints; with `--log` it is what a log tells
+-- with `--judge` a script may be what `judge` prints; with `--log` it is what a log gives
 abbrev pub MeansGiven : Declared → Bool → Bool → List ℕ → Result Numbered ScriptFault → Type 0
 MeansGiven plan judge false = MeansPart plan judge
 MeansGiven plan judge true = MeansLog plan
 
--- the text of the script that a log tells
+-- the text of the script that a log gives
 abbrev pub TellsScript : List ℕ → Result (List ℕ) ScriptFault → Type 0
 TellsScript log (Ok script) = IsToldBy log (Some script)
 TellsScript log (Err fault) = IsToldBy log None × (fault ≡ too_long)
@@ -69,7 +69,7 @@ replayed plan script = record {
   err = [];
 }
 
--- with `--judge` a line behind it says what the script breaks, and the status is 1 too where
+-- with `--judge` a line after it says what the script breaks, and the status is 1 too where
 -- something goes wrong in it
 abbrev pub IsReplayed : Bool → Declared → Numbered → Ending → Type 0
 IsReplayed false plan script answer = answer ≡ replayed plan script
@@ -81,7 +81,7 @@ IsReplayed true plan script answer =
       err = [];
     })
 
--- each event of the script is tried; with `--script` the script that a log tells is shown
+-- each event of the script is tried; with `--script` the script that a log gives is shown
 abbrev pub Replies : Bool → AskedReplay → Declared → List ℕ → Result Ending ScriptFault → Type 0
 Replies false a plan text (Ok answer) = (script : Numbered)
     × MeansGiven plan a.judge a.log text (Ok script) × IsReplayed a.judge plan script answer

@@ -53,13 +53,13 @@ TellsLine plan script n line = (¬ (IsUnsafe (as_plan plan) (beginning script (n
     × (line ≡ late_line (line_of script.events n))
 
 -- the event of this number is the first to find a run over its declared time: what was broken
--- before it is told, or else its line
+-- before it is reported, or else its line
 abbrev pub TellsLate : Declared → Numbered → List ℕ → Type 0
 TellsLate plan script line =
     (n : ℕ) × IsLateAt (as_plan plan) (plain script) n
     × (TellsBreak plan (beginning script (n - 1)) line ⊎ TellsLine plan script n line)
 
--- an event is refused before a run is late: its own line has told that
+-- an event is refused before a run is late: its own line has said so
 abbrev pub TellsNothing : Declared → Numbered → List ℕ → Type 0
 TellsNothing plan script line =
     (n : ℕ) × (f : Refusal) × IsIllegalAt (as_plan plan) (plain script) n f × (line ≡ [])
@@ -69,7 +69,7 @@ abbrev pub TellsSafe : Declared → Numbered → List ℕ → Type 0
 TellsSafe plan script line =
     IsHarmless (as_plan plan) (plain script) × (line ≡ codes "safe so far\n")
 
--- what is said of a script behind its state, and whether something goes wrong in it
+-- what is said of a script after its state, and whether something goes wrong in it
 abbrev pub IsVerdict : Declared → Numbered → List ℕ → Bool → Type 0
 IsVerdict plan script line true =
     TellsBreak plan (plain script) line

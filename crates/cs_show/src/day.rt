@@ -68,7 +68,7 @@ fn tables_text(
     Ok(text)
 }
 
-/// Answers `day TABLE DATE MAX [--anacrontab FILE] [--from M] [--to M]`. The only error is want of
+/// Answers `day TABLE DATE [MAX] [--anacrontab FILE] [--from M] [--to M]`. The only error is want of
 /// memory.
 pub fn answer_day(
     alloc: Global,

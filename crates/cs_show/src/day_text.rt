@@ -44,7 +44,7 @@ fn add_days_apart(
     Ok(())
 }
 
-/// Adds where a window ends, by the minute behind it, counted from the start of the printed day.
+/// Adds where a window ends, by the minute after it, counted from the start of the printed day.
 #[tactic(auto, using(crate::proofs::TextLemmas::two_parts), unfolding(crate::specs::DayText::end_text))]
 fn add_end(alloc: Global, text: &mut Vec<u8>, end: u32) -> Result<(), AllocError>
     ensures { OnOk result (text.new.items ≡ text.old.items ++ end_text end) }

@@ -65,7 +65,7 @@ fn script_of<'a>(alloc: Global, plan: &Plan, bytes: &[u8]) -> Result<NumberedScr
     }
 }
 
-/// The text of the script that a log tells, or none where either is too long.
+/// The text of the script that a log gives, or none where either is too long.
 fn told_by(alloc: Global, plan: &Plan, log: &[u8]) -> Result<Option<Vec<u8>>, AllocError>
     ensures { IfOk result (λ script. IsToldBy log.now (option_map (λ t. t.items) script)) }
 {
@@ -86,7 +86,7 @@ fn too_long<'a>() -> Fault<'a>
     })
 }
 
-/// The script that a log tells.
+/// The script that a log gives.
 #[tactic(auto, using(crate::proofs::ReplayLemmas::told_means, crate::proofs::ReplayLemmas::none_means))]
 fn script_told<'a>(alloc: Global, plan: &Plan, log: &[u8]) -> Result<NumberedScript, Fault<'a>>
     ensures value { MeansIt (MeansLog plan.now) InScript log.now result }
@@ -98,7 +98,7 @@ fn script_told<'a>(alloc: Global, plan: &Plan, log: &[u8]) -> Result<NumberedScr
     }
 }
 
-/// The script that is given: in the bytes, or in what they tell as a log.
+/// The script that is given: in the bytes, or in what they give as a log.
 fn script_given<'a>(
     alloc: Global,
     plan: &Plan,
@@ -116,7 +116,7 @@ fn script_given<'a>(
     }
 }
 
-/// The text of the script that a log tells.
+/// The text of the script that a log gives.
 #[tactic(auto, using(crate::proofs::ReplayLemmas::none_tells))]
 fn text_told<'a>(alloc: Global, plan: &Plan, log: &[u8]) -> Result<Bytes, Fault<'a>>
     ensures value { MeansIt TellsScript InScript log.now result }
@@ -203,7 +203,7 @@ fn replayed<'a>(
     Ok(show(alloc, plan, script, words.judge)?)
 }
 
-/// The answer that shows the script that the log in the bytes tells.
+/// The answer that shows the script that the log in the bytes gives.
 fn shown<'a>(
     alloc: Global,
     words: &ReplayWords<'a>,
@@ -239,7 +239,7 @@ fn reply<'a>(
 }
 
 /// Answers `replay TABLE SCRIPT [--max N] [--anacrontab FILE] [--declarations FILE] [--judge] [--log]
-/// [--script]`. The only error is want of memory.
+/// [--script]`. The only error is out of memory.
 pub fn answer_replay(
     alloc: Global,
     words: &ReplayWords<'_>,

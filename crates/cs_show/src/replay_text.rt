@@ -1,4 +1,4 @@
-//! What `replay` tells of the events of a script.
+//! What `replay` says of the events of a script.
 ghost use Rattle.std.specs.Prelude.{◌≡◌, ◌≤◌, ◌++◌, IfOk, OnOk, decimal, is_err};
 ghost use Rattle.cs_civil.specs.Text.{minute_text};
 ghost use Rattle.cs_plan.specs.Plan.{as_plan};
@@ -12,7 +12,7 @@ use cs_plan::Plan;
 use cs_report::push_reply;
 use std::alloc::{AllocError, Global};
 
-/// Tries an event. The only error is want of memory.
+/// Tries an event. The only error is out of memory.
 #[tactic(auto, using(crate::proofs::ReplayLemmas::step_taken, crate::proofs::ReplayLemmas::step_refused))]
 fn try_event(core: &mut Core, event: Event) -> Result<Result<Reply, Refusal>, AllocError>
     ensures answer { IfOk result (λ answer.
@@ -88,7 +88,7 @@ fn push_events(
     Ok(refused)
 }
 
-/// Adds a count behind its name.
+/// Adds a count after its name.
 fn push_count(
     alloc: Global,
     text: &mut Vec<u8>,
@@ -123,7 +123,7 @@ fn push_state(alloc: Global, text: &mut Vec<u8>, core: &Core) -> Result<(), Allo
     text.extend_from_slice(b"\n")
 }
 
-/// What is told of a script under a plan, and whether an event was refused. The script has these
+/// What is said of a script under a plan, and whether an event was refused. The script has these
 /// events, each with the number of its line, and starts at 1970-01-04 00:00 or later.
 #[tactic(auto, unfolding(crate::specs::Replay::replay_text, crate::specs::Replay::has_refusal))]
 pub fn replay_text(

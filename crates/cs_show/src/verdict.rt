@@ -56,7 +56,7 @@ fn broken_line(alloc: Global, plan: &Plan, shown: &Shown) -> Result<Vec<u8>, All
     Ok(text)
 }
 
-/// The line that tells where a run has passed its declared time.
+/// The line that says where a run has passed its declared time.
 #[tactic(auto, unfolding(crate::specs::Verdict::late_line))]
 fn late_line(alloc: Global, number: u32) -> Result<Vec<u8>, AllocError>
     ensures { IfOk result (λ text. text.items ≡ late_line number) }
@@ -106,7 +106,7 @@ fn late_verdict(
 
 /// What is said of a script, a line, and whether something goes wrong in it. What is broken before
 /// a run is late goes before that; nothing is said where an event is refused before a run is late.
-/// The script starts at 1970-01-04 00:00 or later. The only error is want of memory.
+/// The script starts at 1970-01-04 00:00 or later. The only error is out of memory.
 pub fn verdict(
     alloc: Global,
     plan: &Plan,

@@ -1,9 +1,12 @@
 //! What each object of declarations holds: its members, their values and the ranges of their
 //! numbers.
-use crate::entry::{Entry, Kind, Tell};
+use crate::entry::{Entry, Kind};
+use crate::findings::{Done, Findings};
+use crate::names::{meant, nearest, quoted};
+use crate::object::Object;
+use crate::span::Span;
 use cs_civil::MINUTES_OF_DAY;
-use cs_decl::named_when;
-use cs_diagnostics::{Done, Findings, Object, Span, meant, nearest, quoted};
+use cs_crontab::{Entry as Line, read_line};
 use cs_plan::{DeclFault, MAX_CAPACITY, MAX_MINUTES, MAX_WEIGHT};
 use indexmap::IndexSet;
 use serde_json::Value;
@@ -12,8 +15,9 @@ use std::alloc::{AllocError, Global};
 /// How many members are compared with the name of one that is lacking.
 const MAX_LOOKED_AT: usize = 100;
 
-/// Whether the whole has a member of that name, or one that may be meant to be it.
-pub(crate) fn has_meant(alloc: Global, whole: &Object<'_>, name: &str) -> Result<bool, AllocError> {
+/// Whether the whole has a member of that name, or one that may be meant to be it. The only error
+/// is out of memory.
+pub fn has_meant(alloc: Global, whole: &Object<'_>, name: &str) -> Result<bool, AllocError> {
     let [.., known] = Kind::Whole.texts();
     let known = known.split_whitespace().collect::<Vec<&str>>(alloc)?;
     for (member, _) in whole.members.iter().take(MAX_LOOKED_AT) {
@@ -49,9 +53,20 @@ const MODE: &str = "one of \"none\", \"skip\", \"try\", \"wait\" and \"shared\""
 
 const MODES: &str = "none skip try wait shared";
 
+/// Whether a text stands for five fields of a line, or its word, as the readers of declarations take
+/// one.
+fn is_when(alloc: Global, text: &str) -> Result<bool, AllocError> {
+    let mut line = Vec::from_slice(alloc, text.as_bytes())?;
+    line.extend_from_slice(b" x".as_slice())?;
+    match read_line(line.as_slice()) {
+        Ok(Line::Command(_, command)) => Ok(command == b"x".as_slice()),
+        _ => Ok(false),
+    }
+}
+
 /// Adds what is wrong with the value of a member of that name.
 fn find_in_value(
-    tell: &mut Tell<'_>,
+    findings: &mut Findings,
     entry: &Entry<'_>,
     name: &str,
     (value, span): (&Value, Span),
@@ -67,26 +82,21 @@ fn find_in_value(
     };
     if !is_so {
         let why = format_args!("\"{name}\" is {wanted}");
-        return tell.fault(entry, span, DeclFault::BadShape, why);
+        return findings.fault_of(entry, span, DeclFault::BadShape, why);
     }
     match (name, value.as_str()) {
         ("hours", _) if are_hours(value) == Some(false) => {
             let why = "\"hours\" is [FROM, TO], from 0 to 1440, FROM before TO";
-            tell.fault(entry, span, DeclFault::BadHours, why)
+            findings.fault_of(entry, span, DeclFault::BadHours, why)
         }
         ("mode", Some(mode)) if !is_among(MODES, mode) => {
-            find_none(
-                &mut tell.findings,
-                span,
-                mode,
-                ("no mode", MODES, "the modes are"),
-            )
+            find_none(findings, span, mode, ("no mode", MODES, "the modes are"))
         }
-        ("when", Some(told)) if named_when(tell.findings.alloc, told)?.is_none() => {
+        ("when", Some(told)) if !is_when(findings.alloc, told)? => {
             let why = "\"when\" is the five fields of a line, or its @ word";
-            tell.fault(entry, span, DeclFault::BadShape, why)
+            findings.fault_of(entry, span, DeclFault::BadShape, why)
         }
-        _ => find_in_range(tell, entry, name, (value, span)),
+        _ => find_in_range(findings, entry, name, (value, span)),
     }
 }
 
@@ -111,7 +121,7 @@ fn find_none(findings: &mut Findings, span: Span, name: &str, says: (&str, &str,
 }
 
 fn find_in_range(
-    tell: &mut Tell<'_>,
+    findings: &mut Findings,
     entry: &Entry<'_>,
     name: &str,
     (value, span): (&Value, Span),
@@ -131,67 +141,58 @@ fn find_in_range(
     match whole(value) {
         Some(number) if number < i128::from(low) || i128::from(high) < number => {
             let why = format_args!("\"{name}\" is from {low} to {high}{unit}");
-            tell.fault(entry, span, fault, why)
+            findings.fault_of(entry, span, fault, why)
         }
         _ => Ok(()),
     }
 }
 
-fn find_lacking(tell: &mut Tell<'_>, entry: &Entry<'_>) -> Done {
+fn find_lacking(findings: &mut Findings, entry: &Entry<'_>) -> Done {
     let ([_, _, called, known], bracket) = (entry.kind.texts(), entry.object.bracket);
     for name in known.split_whitespace() {
         let is_needed = matches!(name, "capacity" | "exclusive" | "id" | "max" | "name");
         if is_needed && !entry.object.has(name) {
             let why = format_args!("\"{name}\" is required: add it to {called}");
-            tell.fault(entry, bracket, DeclFault::BadShape, why)?;
+            findings.fault_of(entry, bracket, DeclFault::BadShape, why)?;
         }
     }
     let has_none = !entry.object.has("line") && !entry.object.has("command");
     if has_none && matches!(entry.kind, Kind::Cron | Kind::LeftOut) {
         let why = format_args!("\"line\" or \"command\" is required: add one to {called}");
-        tell.fault(entry, bracket, DeclFault::BadShape, why)?;
+        findings.fault_of(entry, bracket, DeclFault::BadShape, why)?;
     }
     Ok(())
 }
 
 /// Adds what is wrong with an object by itself and with each of its members, or that it's none.
-pub(crate) fn find_in_entry(tell: &mut Tell<'_>, entry: &Entry<'_>) -> Done {
+pub(crate) fn find_in_entry(findings: &mut Findings, entry: &Entry<'_>) -> Done {
     if !entry.is_object {
         let [_, _, called, _] = entry.kind.texts();
         let why = format_args!("{called} is an object: write {{..}}");
-        return tell.fault(entry, entry.place, DeclFault::BadShape, why);
+        return findings.fault_of(entry, entry.place, DeclFault::BadShape, why);
     }
-    let mut counted = IndexSet::new(tell.findings.alloc);
+    let mut counted = IndexSet::new(findings.alloc);
     for (name, part) in entry.object.members.iter().rev() {
         let name = name.as_str();
         if counted.insert(name)? {
-            find_in_member(tell, entry, name, part.name)?;
-        } else {
-            let text = quoted(tell.findings.alloc, name)?;
-            let why = "is given again later, and only the last one counts: remove one";
-            tell.odd(part.name, "", format_args!("{text} {why}"))?;
+            find_in_member(findings, entry, name, part.name)?;
         }
     }
-    find_lacking(tell, entry)
+    find_lacking(findings, entry)
 }
 
 /// Adds what is wrong with a member, of which that name stands there.
-fn find_in_member(tell: &mut Tell<'_>, entry: &Entry<'_>, name: &str, span: Span) -> Done {
+fn find_in_member(findings: &mut Findings, entry: &Entry<'_>, name: &str, span: Span) -> Done {
     let [.., known] = entry.kind.texts();
     if entry.kind == Kind::Anacron && name == "mode" {
         let why = "remove \"mode\": anacron jobs take no lock";
-        return tell.fault(entry, span, DeclFault::ModeOnAnacron, why);
+        return findings.fault_of(entry, span, DeclFault::ModeOnAnacron, why);
     }
     if !is_among(known, name) {
-        return find_none(
-            &mut tell.findings,
-            span,
-            name,
-            ("unknown", known, "known are"),
-        );
+        return find_none(findings, span, name, ("unknown", known, "known are"));
     }
     match entry.object.member(name) {
-        Some(part) => find_in_value(tell, entry, name, part),
+        Some(part) => find_in_value(findings, entry, name, part),
         None => Ok(()),
     }
 }

@@ -1,0 +1,168 @@
+//! The lines that show a fault of declarations, as their readers answer it.
+use crate::declared::Declarations;
+use crate::entry::{Entry, Kind};
+use crate::findings::{Done, Findings};
+use crate::outline::parsed;
+use crate::render::File;
+use crate::span::Span;
+use cs_plan::{DeclError, DeclFault, Place};
+use serde_json::Value;
+use std::alloc::{AllocError, Global};
+
+/// The kind of entries to which a place belongs, and if it's that of an entry, its place among them,
+/// counted from 0.
+fn entry_at(place: &Option<Place>) -> (Kind, Option<usize>) {
+    match place {
+        Some(Place::Group(index)) => (Kind::Group, Some(*index)),
+        Some(Place::Cron(index)) => (Kind::Cron, Some(*index)),
+        Some(Place::Anacron(index)) => (Kind::Anacron, Some(*index)),
+        Some(Place::LeftOut(index)) => (Kind::LeftOut, Some(*index)),
+        Some(Place::Line(_)) => (Kind::Cron, None),
+        Some(Place::Job(_)) => (Kind::Anacron, None),
+        None => (Kind::Whole, None),
+    }
+}
+
+/// The member of an entry that doesn't fit the tables, and what to do about it.
+fn advice(fault: DeclFault, kind: Kind, has_line: bool, has_jobs: bool) -> [&'static str; 2] {
+    let named = if has_line { "line" } else { "command" };
+    match (fault, kind) {
+        (DeclFault::NoSuchLine, Kind::Anacron) if !has_jobs => {
+            [
+                "id",
+                "no anacrontab with jobs is given: use --anacrontab FILE",
+            ]
+        }
+        (DeclFault::NoSuchLine, Kind::Anacron) => {
+            ["id", "no such job: correct \"id\", or remove the entry"]
+        }
+        (DeclFault::NoSuchLine, _) if has_line => {
+            [
+                named,
+                "this line has no command: correct it, or remove this entry",
+            ]
+        }
+        (DeclFault::NoSuchLine, _) => {
+            [
+                named,
+                "no line has this command: correct it, or remove this entry",
+            ]
+        }
+        (DeclFault::TwiceDeclared, _) => {
+            [
+                named,
+                "this line has an entry already: remove one of the two",
+            ]
+        }
+        (DeclFault::OtherCommand, _) => {
+            [
+                "command",
+                "the line has another command: correct \"line\" or \"command\"",
+            ]
+        }
+        (DeclFault::OtherSchedule, _) => {
+            [
+                "when",
+                "the line has another schedule: correct \"line\" or \"when\"",
+            ]
+        }
+        (DeclFault::AmbiguousCommand, _) => {
+            [
+                "command",
+                "more than one line has it: add the \"line\" that is meant",
+            ]
+        }
+        (DeclFault::OtherParts, _) => {
+            [
+                "parts",
+                "the line has other parts: correct them, as 'cronsafe draft --update' does",
+            ]
+        }
+        (DeclFault::RebootLine, _) => ["", "put this line of the crontab into \"left_out\""],
+        (DeclFault::Undeclared, Kind::Anacron) => ["", "add an entry for this job"],
+        (DeclFault::Undeclared, _) => ["", "add an entry for this line of the crontab"],
+        _ => ["", "see 'cronsafe explain'"],
+    }
+}
+
+impl Declarations<'_> {
+    /// The entry of that kind with that place among them.
+    fn entry(&self, kind: Kind, index: Option<usize>) -> Option<&Entry<'_>> {
+        for entry in self.entries.iter() {
+            if entry.kind == kind && Some(entry.index) == index {
+                return Some(entry);
+            }
+        }
+        None
+    }
+
+    /// Where a fault of these entries is: at the member of the one with that place, or where the
+    /// entry, its list or the whole begins.
+    fn place_of(&self, kind: Kind, index: Option<usize>, member: &str) -> Span {
+        if let Some(entry) = self.entry(kind, index) {
+            return match entry.object.member(member) {
+                Some((_, span)) => span,
+                None => entry.object.bracket,
+            };
+        }
+        let [list, ..] = kind.texts();
+        match self.whole.object.member(list) {
+            Some((_, span)) => Span::of(span.from, 1),
+            None => self.whole.object.bracket,
+        }
+    }
+
+    /// Whether the entry of that kind with that place names its line by number.
+    fn has_line(&self, kind: Kind, index: Option<usize>) -> bool {
+        match self.entry(kind, index) {
+            Some(entry) => entry.object.has("line"),
+            None => false,
+        }
+    }
+}
+
+/// Adds a fault of declarations, which are that value, as their readers answer it; and no other.
+fn find_fault(
+    findings: &mut Findings,
+    bytes: &[u8],
+    value: &Value,
+    (fault, place, name): (DeclFault, &Option<Place>, &str),
+    has_jobs: bool,
+) -> Done {
+    let declarations = Declarations::new(findings.alloc, bytes, value)?;
+    declarations.find_faults(findings, bytes)?;
+    findings.keep_named(name);
+    if findings.has_faults() {
+        return Ok(());
+    }
+    let (kind, index) = entry_at(place);
+    let has_line = declarations.has_line(kind, index);
+    let [member, why] = advice(fault, kind, has_line, has_jobs);
+    let span = declarations.place_of(kind, index, member);
+    findings.fault(span, format_args!("{name}: {why}"))
+}
+
+/// What [`Findings::tell`] prints of the first fault of declarations, as their readers answer it,
+/// after a newline and without the last one; nothing if that is that memory ran out. It's given
+/// whether there is an anacrontab with jobs. The only error is out of memory.
+pub fn declared_lines(
+    alloc: Global,
+    file: &File<'_>,
+    error: &DeclError,
+    has_jobs: bool,
+) -> Result<Option<Vec<u8>>, AllocError> {
+    let DeclError::At { fault, place } = error else {
+        return Ok(None);
+    };
+    let mut findings = Findings::new(alloc, file.bytes)?;
+    let text = error.text(alloc)?;
+    let name = String::from_utf8_lossy(alloc, text.as_slice())?;
+    match parsed(alloc, file.bytes)? {
+        Ok(value) => {
+            let fault = (*fault, place, name.as_str());
+            find_fault(&mut findings, file.bytes, &value, fault, has_jobs)?;
+        }
+        Err(error) => findings.no_json(file.bytes, &error)?,
+    }
+    Ok(Some(findings.lines(file, &[])?))
+}

@@ -25,7 +25,7 @@ use Rattle.cs_files.proofs.TurnLemmas.{some_read, then_read}
 use Rattle.cs_gather.specs.Tables.{AreNamed, Given, IsUserFile, system_table}
 use Rattle.cs_gather.specs.Gather.{Denotes, HasFault}
 use Rattle.cs_gather.specs.Gathered.{commands_of}
-use Rattle.cs_gather.specs.Answer.{Adds, AddsText, EndsFor, FaultsText, IsPassedOver, ShowsGathered, Stops, Sum}
+use Rattle.cs_gather.specs.Answer.{Adds, AddsText, EndsFor, FaultsText, IsIgnored, ShowsGathered, Stops, Sum}
 use Rattle.cs_gather.specs.Listing.{AreSomeRead, IsUnlisted, unlisted_trouble}
 use Rattle.cs_gather.specs.declared.below.Unlisted.{Unlisted}
 use Rattle.cs_gather.specs.declared.below.Unlisted.TheVariants.{CannotRead, OutOfMemory as NoMemory}
@@ -49,22 +49,22 @@ by_file P (Some text) rest bytes so is up = so text (subst (λ (o : Option (List
 -- what the bytes add the file adds
 pub adds_read : (files left : List ℕ → Option (List ℕ)) (given : Given) (bytes : List ℕ) (table : Table) (old more : Sum)
     → IsFresh files left → IsRead MAX_TABLE given.path left bytes → Denotes given.user bytes table → more.commands ≡ old.commands ++ commands_of given table → more.is_whole ≡ old.is_whole → Adds files given old more
-adds_read files left given bytes table old more fresh read is adds stays = by_file (λ text. AddsText given old more text ⊎ IsPassedOver given old more text) (files given.path) (left given.path) bytes same (fresh given.path) read
+adds_read files left given bytes table old more fresh read is adds stays = by_file (λ text. AddsText given old more text ⊎ IsIgnored given old more text) (files given.path) (left given.path) bytes same (fresh given.path) read
   where
-    same : (text : List ℕ) → IsUpTo MAX_TABLE text bytes → AddsText given old more text ⊎ IsPassedOver given old more text
+    same : (text : List ℕ) → IsUpTo MAX_TABLE text bytes → AddsText given old more text ⊎ IsIgnored given old more text
     same text (inl e) = inl (table, subst (λ (b : List ℕ). Denotes given.user b table) e is, adds, stays)
     same text (inr (long, other)) = absurd (let short = is_short given.user bytes table is in omega (arith, short, long))
 
--- a table with a fault that was read to its end is passed over
-pub passed_read : (files left : List ℕ → Option (List ℕ)) (given : Given) (bytes : List ℕ) (old more : Sum) (fault : TableFault SystemFault)
-    → IsFresh files left → IsRead MAX_TABLE given.path left bytes → IsSome given.below → length bytes ≤ MAX_TABLE → HasFault given.user bytes fault → IsSome (gathered_trouble given.path fault)
+-- a table with a fault that was read to its end is ignored
+pub ignored_read : (files left : List ℕ → Option (List ℕ)) (given : Given) (bytes : List ℕ) (old more : Sum) (fault : TableFault SystemFault)
+    → IsFresh files left → IsRead MAX_TABLE given.path left bytes → IsSome given.below → length bytes ≤ MAX_TABLE → HasFault given.user bytes fault → (lines : List ℕ) → IsSome (gathered_trouble given.path fault lines)
     → more.commands ≡ old.commands → more.is_whole ≡ false → Adds files given old more
-passed_read files left given bytes old more OutOfMemory fresh read found short has some same gap = absurd (true≢false (sym some))
-passed_read files left given bytes old more (At line column size fault) fresh read found short has some same gap =
-    by_file (λ text. AddsText given old more text ⊎ IsPassedOver given old more text) (files given.path) (left given.path) bytes so (fresh given.path) read
+ignored_read files left given bytes old more OutOfMemory fresh read found short has lines some same gap = absurd (true≢false (sym some))
+ignored_read files left given bytes old more (At line column size fault) fresh read found short has lines some same gap =
+    by_file (λ text. AddsText given old more text ⊎ IsIgnored given old more text) (files given.path) (left given.path) bytes so (fresh given.path) read
   where
-    so : (text : List ℕ) → IsUpTo MAX_TABLE text bytes → AddsText given old more text ⊎ IsPassedOver given old more text
-    so text (inl e) = inr (subst (IsPassedOver given old more) e (found, short, (record { line = line; column = column; size = size; fault = fault }, has), same, gap))
+    so : (text : List ℕ) → IsUpTo MAX_TABLE text bytes → AddsText given old more text ⊎ IsIgnored given old more text
+    so text (inl e) = inr (subst (IsIgnored given old more) e (found, short, (record { line = line; column = column; size = size; fault = fault }, has), same, gap))
     so text (inr (long, other)) = absurd (omega (arith, short, long))
 
 -- a fault of bytes is that of a text that is too long too
@@ -79,10 +79,10 @@ long_fault (Some user) bytes text fault long other (inner, is, same) = (inner, s
 
 -- a table with a fault stops the call
 pub stops_read : (files left : List ℕ → Option (List ℕ)) (failed : Failed) (given : Given) (bytes : List ℕ) (old : Sum) (fault : TableFault SystemFault)
-    → IsFresh files left → IsRead MAX_TABLE given.path left bytes → FaultsText given old fault bytes → IfSome (gathered_trouble given.path fault) (Stops files failed given old)
-stops_read files left failed given bytes old OutOfMemory fresh read faults = tt
-stops_read files left failed given bytes old (At line column size fault) fresh read faults =
-    inr (record { line = line; column = column; size = size; fault = fault }, refl, by_file (FaultsText given old at) (files given.path) (left given.path) bytes (same faults) (fresh given.path) read)
+    → IsFresh files left → IsRead MAX_TABLE given.path left bytes → FaultsText given old fault bytes → (lines : List ℕ) → IfSome (gathered_trouble given.path fault lines) (Stops files failed given old)
+stops_read files left failed given bytes old OutOfMemory fresh read faults lines = tt
+stops_read files left failed given bytes old (At line column size fault) fresh read faults lines =
+    inr (record { line = line; column = column; size = size; fault = fault }, lines, refl, by_file (FaultsText given old at) (files given.path) (left given.path) bytes (same faults) (fresh given.path) read)
   where
     at : TableFault SystemFault
     at = At line column size fault
@@ -101,9 +101,14 @@ stops_unread files failed given old e = by_trouble (trouble e)
     by_trouble (Some t) h = inl h
 
 -- a fault of a table is no failure of a device
-pub honest_gathered : (failed : Failed) (reads : Reads) (path : Text) (fault : TableFault SystemFault) → IfSome (gathered_trouble path fault) (λ t. trouble_status t ≡ 6 → (p : Text) × IsUnread p failed reads × TellsPath p t)
-honest_gathered failed reads path OutOfMemory = tt
-honest_gathered failed reads path (At line column size fault) = λ six. absurd (cc)
+pub honest_gathered : (failed : Failed) (reads : Reads) (path : Text) (fault : TableFault SystemFault) (lines : List ℕ) → IfSome (gathered_trouble path fault lines) (λ t. trouble_status t ≡ 6 → (p : Text) × IsUnread p failed reads × TellsPath p t)
+honest_gathered failed reads path OutOfMemory lines = tt
+honest_gathered failed reads path (At line column size fault) lines = λ six. absurd (cc)
+
+-- what holds of a fault of a table holds of it with the lines that show it
+pub of_shown : (P : Trouble → Type 0) (o : Option Trouble) (path text : Text) (fault : TableFault SystemFault) (lines : List ℕ) → o ≡ gathered_trouble path fault lines → path ≡ text
+    → IfSome (gathered_trouble text fault lines) P → IfSome o P
+of_shown P o path text fault lines is at h = subst (λ (x : Option Trouble). IfSome x P) (sym (is ∙ ap (λ (p : Text). gathered_trouble p fault lines) at)) h
 
 -- what is answered of a fault is told
 pub is_told : (notes : List ℕ) (o : Option Trouble) (r : Ending) → option_map (ends notes) o ≡ Some r → IsSome o

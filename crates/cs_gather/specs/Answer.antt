@@ -19,7 +19,7 @@ use Rattle.cs_gather.specs.declared.table.Table.{Table}
 
 -- ---- what is added
 
--- the commands so far, and whether no table was passed over
+-- the commands so far, and whether no table was ignored
 pub record Sum : Type 0 where
   pub commands : List Gathered
   pub is_whole : Bool
@@ -36,23 +36,23 @@ abbrev pub AddsText : Given → Sum → Sum → List ℕ → Type 0
 AddsText given old more text = (table : Table) × Denotes given.user text table
     × (more.commands ≡ old.commands ++ commands_of given table) × (more.is_whole ≡ old.is_whole)
 
--- or, of a table below the root folder, it has a fault: it is passed over
-abbrev pub IsPassedOver : Given → Sum → Sum → List ℕ → Type 0
-IsPassedOver given old more text = IsSome given.below × (length text ≤ MAX_TABLE)
+-- or, of a table below the root folder, it has a fault: it is ignored
+abbrev pub IsIgnored : Given → Sum → Sum → List ℕ → Type 0
+IsIgnored given old more text = IsSome given.below × (length text ≤ MAX_TABLE)
     × ((fault : Found SystemFault) × HasFault given.user text (as_error fault))
     × (more.commands ≡ old.commands) × (more.is_whole ≡ false)
 
--- a fault that stops the call: of a table that isn't passed over, or too much to add
+-- a fault that stops the call: of a table that isn't ignored, or too much to add
 abbrev pub FaultsText : Given → Sum → TableFault SystemFault → List ℕ → Type 0
 FaultsText given old fault text =
     (HasFault given.user text fault × (IsSome given.below → MAX_TABLE < length text))
     ⊎ ((table : Table) × Denotes given.user text table
     × IsOverflow text (room_behind old.commands) (commands_of given table) fault)
 
--- a table adds the commands that its path's bytes say, where they are known, or is passed over
+-- a table adds the commands that its path's bytes say, where they are known, or is ignored
 abbrev pub Adds : (List ℕ → Option (List ℕ)) → Given → Sum → Sum → Type 0
 Adds files given old more = IfSome (files given.path)
-    (λ text. AddsText given old more text ⊎ IsPassedOver given old more text)
+    (λ text. AddsText given old more text ⊎ IsIgnored given old more text)
 
 -- tables add theirs in turn
 abbrev pub AllAdded : (List ℕ → Option (List ℕ)) → List Given → Sum → Sum → Type 0
@@ -60,11 +60,12 @@ AllAdded files [] old more = more ≡ old
 AllAdded files (given ∷ later) old more =
     (between : Sum) × Adds files given old between × AllAdded files later between more
 
--- a table can't be read, or its bytes have a fault behind the commands so far
+-- a table can't be read, or its bytes have a fault after the commands so far, which
+-- lines show
 abbrev pub Stops : (List ℕ → Option (List ℕ)) → Failed → Given → Sum → Trouble → Type 0
 Stops files failed given old t =
     ((failed given.path ≡ true) × TellsPath given.path t)
-    ⊎ ((fault : Found SystemFault) × (t ≡ InGathered given.path fault)
+    ⊎ ((fault : Found SystemFault) × (lines : List ℕ) × (t ≡ InGathered given.path (fault, lines))
     × IfSome (files given.path) (FaultsText given old (as_error fault)))
 
 -- all tables before one add theirs, and it stops the call
@@ -84,17 +85,17 @@ IsNotReadBack ending = (notes : List ℕ) × (ending ≡ record {
   err = notes ++ complaint (codes "the gathered table reads otherwise than its parts");
 })
 
--- one table of all commands; the status says whether a table was passed over
+-- one table of all commands; the status says whether a table was ignored
 abbrev pub ShowsGathered : Sum → Ending → Type 0
 ShowsGathered sum ending =
     ((ending.status ≡ (if sum.is_whole then 0 else 1)) × Gathers ending.out sum.commands)
     ⊎ IsNotReadBack ending
 
--- a fault ends the call, behind notes
+-- a fault ends the call, after notes
 abbrev pub EndsFor : Trouble → Ending → Type 0
 EndsFor t ending = (notes : List ℕ) × (ending ≡ ends notes t)
 
--- all tables are gathered, or the first that stops the call is told
+-- all tables are gathered, or the fault of the first that stops the call is shown
 abbrev pub GathersAll : (List ℕ → Option (List ℕ)) → Failed → List Given → Ending → Type 0
 GathersAll files failed tables ending =
     ((sum : Sum) × AllAdded files tables nothing sum × ShowsGathered sum ending)

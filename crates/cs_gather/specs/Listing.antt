@@ -12,7 +12,7 @@ use Rattle.cs_gather.specs.declared.below.Shelf.TheVariants.{CronD, Crontabs}
 use Rattle.cs_gather.specs.declared.below.Unlisted.{Unlisted}
 use Rattle.cs_gather.specs.declared.below.Unlisted.TheVariants.{CannotRead, OutOfMemory}
 
--- where a folder of tables is, behind the front of paths below the root folder
+-- where a folder of tables is, after the front of paths below the root folder
 abbrev pub place_of : Shelf → Text
 place_of CronD = codes "/etc/cron.d/"
 place_of Crontabs = codes "/var/spool/cron/crontabs/"
@@ -41,7 +41,7 @@ FindsAllOn tree front shelf found = (name : Text) → IsIn tree (front ++ place_
 abbrev pub AreAmong : List Given → List Given → Type 0
 AreAmong some all = (given : Given) → Contains some given → Contains all given
 
--- the path that is told was unread
+-- the path that is named was unread
 abbrev pub IsUnlisted : Failed → Reads → Unlisted → Type 0
 IsUnlisted failed reads (CannotRead path reason) = IsUnread (string_bytes path) failed reads
 IsUnlisted failed reads OutOfMemory = Unit {0}

@@ -28,7 +28,7 @@ system_table path = record { path = path; below = None; user = None }
 abbrev pub user_table : Text → Text → Given
 user_table path user = record { path = path; below = None; user = Some user }
 
--- what stands behind the last slash of a path, or all of it
+-- what stands after the last slash of a path, or all of it
 abbrev pub IsLastPart : Text → Text → Type 0
 IsLastPart path part = (list_any (λ byte. byte == 47) part ≡ false)
     × ((path ≡ part) ⊎ ((before : Text) × (path ≡ before ++ (47 ∷ part))))

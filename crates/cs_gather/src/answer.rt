@@ -1,6 +1,6 @@
 //! The subcommand `gather`.
 ghost use Rattle.std.specs.Prelude.{◌≡◌, ◌<◌, ◌≤◌, ◌++◌, IfErr, IfOk, IfSome, IsFalse, IsSome};
-ghost use Rattle.std.specs.Prelude.{IsTrue, OnOk, false, length, map};
+ghost use Rattle.std.specs.Prelude.{IsTrue, List, OnOk, false, length, map, ℕ};
 ghost use Rattle.cs_args.specs.Asked.{asked_gather};
 ghost use Rattle.cs_table.specs.declared.limits.TheConstants.{MAX_TABLE};
 ghost use Rattle.cs_io.specs.Files.{AreReadInTurn, IsFresh, IsReadAlone};
@@ -13,33 +13,62 @@ ghost use Rattle.cs_gather.specs.Tables.{AreNamed};
 use crate::confirm::says;
 use crate::gathering::{GatherFault, Gathering};
 use crate::given::{Given, push_named};
-use crate::note::{push_passed_over, push_warnings};
+use crate::note::{push_ignored, push_warnings};
 use crate::parts::parts_asked;
 use crate::root::tables_below;
 use crate::table::read_table;
 use cs_args::GatherWords;
 use cs_civil::Bytes;
+use cs_crontab::LineFault;
+use cs_diagnostics::{File, FirstFault, TableKind, table_lines};
 use cs_files::{Fault, Response, Status, bytes_at};
 use cs_io::Folders;
 use cs_place::MARK;
-use cs_table::MAX_TABLE;
+use cs_system::SystemFault;
+use cs_table::{MAX_TABLE, TableFault};
 use std::alloc::{AllocError, Global};
 
-/// Passes over a table with a fault, which is told, if it was found below the root folder and isn't
+/// A fault of the table at a path, which is that text, with the lines that show it. Up to its user
+/// a line of a system table is one of a user's table.
+fn shown<'a>(
+    alloc: Global,
+    path: &'a str,
+    bytes: &[u8],
+    fault: GatherFault,
+) -> Result<Fault<'a>, AllocError>
+    ensures { IfOk result (λ shown. (lines : List ℕ)
+        × (trouble shown ≡ gathered_trouble path.now fault lines)) }
+{
+    let TableFault::At {
+        line,
+        column,
+        length,
+        fault: inner,
+    } = fault
+    else {
+        return Err(AllocError);
+    };
+    let is_setting = matches!(inner, SystemFault::Line(LineFault::BadSetting));
+    let first = FirstFault::of(line, column, length, is_setting, inner.text());
+    let file = File { path, bytes };
+    let lines = table_lines(alloc, &file, TableKind::Crontab, &first)?;
+    Ok(Fault::Gathered(path, fault, Some(Bytes::from_vec(lines))))
+}
+
+/// Ignores a table with this fault, which is shown, if it was found below the root folder and isn't
 /// longer than a table may be. Says whether it did.
-fn passes_over(
+fn ignores(
     alloc: Global,
     given: &Given,
     bytes: &[u8],
-    fault: GatherFault,
+    fault: &Fault<'_>,
     gathering: &mut Gathering,
     notes: &mut Vec<u8>,
 ) -> Result<bool, AllocError>
     ensures found { IfOk result (λ is. IsTrue is
         → IsSome given.now.below × (length bytes.now ≤ MAX_TABLE)) }
-    ensures told { IfOk result (λ is. IsTrue is
-        → IsSome (gathered_trouble given.now.path fault)) }
-    ensures passed { IfOk result (λ is. IsTrue is
+    ensures shown { IfOk result (λ is. IsTrue is → IsSome (trouble fault.now)) }
+    ensures ignored { IfOk result (λ is. IsTrue is
         → (gathering.new.commands.items ≡ gathering.old.commands.items)
         × (gathering.new.is_whole ≡ false)) }
     ensures stops { IfOk result (λ is. IsFalse is
@@ -51,16 +80,15 @@ fn passes_over(
     if bytes.len() > MAX_TABLE {
         return Ok(false);
     }
-    let path = given.path();
-    let told = Fault::Gathered(path, fault).response(alloc, b"".as_slice())?;
-    notes.extend_from_slice(told.err())?;
-    push_passed_over(notes, path, b"", "it has a fault")?;
+    let shown = fault.response(alloc, b"".as_slice())?;
+    notes.extend_from_slice(shown.err())?;
+    push_ignored(notes, given.path(), b"", "it has a fault")?;
     gathering.is_whole = false;
     Ok(true)
 }
 
-/// Reads a table and adds its commands, with their parts where a root folder is asked, or passes it
-/// over; what is to be told of it comes behind the notes.
+/// Reads a table and adds its commands, with their parts where a root folder is asked, or ignores
+/// it; what there is to say of it is added to the notes.
 fn add_table<'a, I: Folders>(
     alloc: Global,
     inputs: &mut I,
@@ -86,19 +114,23 @@ fn add_table<'a, I: Folders>(
     let table = match read_table(alloc, given, text) {
         Ok(table) => table,
         Err(fault) => {
-            let is_passed = passes_over(alloc, given, text, fault, gathering, notes)?;
-            if is_passed {
+            let shown = shown(alloc, path, text, fault)?;
+            let is_ignored = ignores(alloc, given, text, &shown, gathering, notes)?;
+            if is_ignored {
                 return Ok(());
             }
-            return Err(Fault::Gathered(path, fault));
+            return Err(shown);
         }
     };
     let commands = table.commands(alloc, given)?;
     let parts = parts_asked(alloc, inputs, root, path, commands.as_slice(), notes)?;
     let name = given.name();
     match gathering.add(alloc, name, text, commands, parts.as_slice()) {
-        Ok(()) => Ok(push_warnings(alloc, notes, path, text, &table)?),
-        Err(fault) => Err(Fault::Gathered(path, fault)),
+        Ok(()) => {
+            let is_open = path != "-" && inputs.is_open_to_others(path);
+            Ok(push_warnings(alloc, notes, path, text, is_open, &table)?)
+        }
+        Err(fault) => Err(shown(alloc, path, text, fault)?),
     }
 }
 
@@ -144,7 +176,7 @@ fn show(alloc: Global, gathering: Gathering, notes: Vec<u8>) -> Result<Response,
     Response::fault(alloc, Status::Unknown, notes.as_slice(), fault)
 }
 
-/// What is answered of the tables that were found and of those that the words name, behind notes.
+/// What is answered of the tables that were found and of those that the words name, after notes.
 fn gather<I: Folders>(
     alloc: Global,
     request: &GatherWords<'_>,

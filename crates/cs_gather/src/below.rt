@@ -6,7 +6,7 @@ ghost use Rattle.cs_gather.specs.Listing.{AreAmong, FindsAllOn, FindsNamed, HasN
 ghost use Rattle.cs_gather.specs.Listing.{given_in, place_of, unlisted_trouble};
 
 use crate::given::Given;
-use crate::note::push_passed_over;
+use crate::note::push_ignored;
 use cs_civil::{Bytes, Sequence};
 use cs_files::{Fault, Response};
 use cs_io::{FileKind, Folders, ReadFault, Reason};
@@ -44,7 +44,7 @@ impl<T: Drop> From<AllocFailed<T>> for Unlisted {
 }
 
 impl Unlisted {
-    /// What is answered of it, behind notes.
+    /// What is answered of it, after notes.
     pub(crate) fn response(&self, alloc: Global, notes: &[u8]) -> Result<Response, AllocError>
         ensures { IfOk result
             (λ r. option_map (ends notes.now) (unlisted_trouble self.now) ≡ Some r) }
@@ -87,7 +87,7 @@ impl Shelf {
     {
         match self {
             Shelf::CronD if !is_part_name(name) => {
-                return Err("its name holds other signs than letters, digits, _ and -");
+                return Err("its name has other characters than letters, digits, _ and -");
             }
             Shelf::Crontabs if name.starts_with(b".".as_slice()) => {
                 return Err("its name begins with a dot");
@@ -121,7 +121,7 @@ pub(crate) fn joined(alloc: Global, front: &str, rest: &str) -> Result<String, A
     Ok(path)
 }
 
-/// The path of a name behind a front, and what it leads to.
+/// The path that a front and a name make, and what it leads to.
 pub(crate) fn found_at<I: Folders>(
     alloc: Global,
     inputs: &mut I,
@@ -162,7 +162,7 @@ pub(crate) fn names_at<I: Folders>(
     }
 }
 
-/// Adds a table, if a regular file is there; else it is passed over.
+/// Adds a table, if a regular file is there; else it is ignored.
 fn push_found(
     kind: Option<FileKind>,
     given: Given,
@@ -181,7 +181,7 @@ fn push_found(
         Some(FileKind::Empty) => "it is empty",
         _ => "it is no regular file",
     };
-    push_passed_over(notes, given.path(), b"", why)
+    push_ignored(notes, given.path(), b"", why)
 }
 
 /// Adds the table of the machine, if there is one.
@@ -210,7 +210,7 @@ pub(crate) fn push_crontab<I: Folders>(
     }
 }
 
-/// Adds the table of a name in a folder of tables, or passes it over.
+/// Adds the table of a name in a folder of tables, or ignores it.
 fn push_named<I: Folders>(
     alloc: Global,
     inputs: &mut I,
@@ -230,7 +230,7 @@ fn push_named<I: Folders>(
 {
     let name = match shelf.name(name) {
         Ok(name) => name,
-        Err(why) => return Ok(push_passed_over(notes, folder, name, why)?),
+        Err(why) => return Ok(push_ignored(notes, folder, name, why)?),
     };
     let (path, kind) = found_at(alloc, inputs, folder, name)?;
     let given = shelf.given(alloc, path, name)?;

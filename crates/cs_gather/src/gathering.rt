@@ -27,7 +27,7 @@ pub(crate) type GatherFault = TableFault<SystemFault>;
 pub(crate) struct Gathering {
     pub(crate) text: Vec<u8>,
     pub(crate) commands: Vec<Gathered>,
-    /// Whether no table was passed over.
+    /// Whether no table was ignored.
     pub(crate) is_whole: bool,
 }
 

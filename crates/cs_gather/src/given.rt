@@ -101,7 +101,7 @@ impl Given {
     }
 }
 
-/// What stands behind the last slash of a path, or all of it.
+/// What stands after the last slash of a path, or all of it.
 fn last_part(path: &str) -> &str
     ensures { IsLastPart path.now result.now }
 {

@@ -1,4 +1,4 @@
-//! What is told of tables beside what is gathered of them.
+//! What there is to say of tables beside what is gathered of them.
 use crate::table::Table;
 use cs_place::push_shown;
 use cs_report::{first_behind_user, is_no_user, is_unheeded};
@@ -7,7 +7,7 @@ use cs_table::Setting;
 use cs_table::text::word;
 use std::alloc::{AllocError, Global};
 
-/// Writes a line behind the text: these parts, each so that it stays one line.
+/// Adds a line to the text: these parts, each so that it stays one line.
 pub(crate) fn push_line(text: &mut Vec<u8>, parts: &[&[u8]]) -> Result<(), AllocError> {
     for part in parts {
         push_shown(text, *part)?;
@@ -15,9 +15,9 @@ pub(crate) fn push_line(text: &mut Vec<u8>, parts: &[&[u8]]) -> Result<(), Alloc
     text.extend_from_slice(b"\n")
 }
 
-/// Writes behind the text that something is passed over, and why; but nothing of the file with
-/// which Debian's packages keep folders.
-pub(crate) fn push_passed_over(
+/// Adds that something is ignored, and why; but nothing of the file with which Debian's packages
+/// keep folders.
+pub(crate) fn push_ignored(
     text: &mut Vec<u8>,
     folder: &str,
     name: &[u8],
@@ -27,10 +27,10 @@ pub(crate) fn push_passed_over(
         return Ok(());
     }
     let (folder, why) = (folder.as_bytes(), why.as_bytes());
-    push_line(text, &[b"note: ", folder, name, b" is passed over: ", why])
+    push_line(text, &[b"note: ", folder, name, b" is ignored: ", why])
 }
 
-/// Writes a line behind the text: what it is of, its place on a line of a table, and the rest.
+/// Adds a line to the text: what it is of, its place on a line of a table, and the rest.
 pub(crate) fn push_at(
     alloc: Global,
     text: &mut Vec<u8>,
@@ -45,16 +45,27 @@ pub(crate) fn push_at(
     push_line(text, rest)
 }
 
-/// Writes behind the text that a table has no newline at its end, if it has none.
-fn push_no_newline(text: &mut Vec<u8>, path: &str, bytes: &[u8]) -> Result<(), AllocError> {
+/// Adds why Debian's cron ignores a table, if it does: others may write to it, or it has no newline
+/// at its end.
+fn push_unread(
+    text: &mut Vec<u8>,
+    path: &str,
+    bytes: &[u8],
+    is_open: bool,
+) -> Result<(), AllocError> {
+    let path = path.as_bytes();
+    if is_open {
+        let end = b": Debian's cron ignores such a table: use chmod go-w".as_slice();
+        push_line(text, &[b"note: others may write to ", path, end])?;
+    }
     if bytes.is_empty() || bytes.ends_with(b"\n".as_slice()) {
         return Ok(());
     }
     let end = b" has no newline at its end: Debian's cron ignores such a table".as_slice();
-    push_line(text, &[b"note: ", path.as_bytes(), end])
+    push_line(text, &[b"note: ", path, end])
 }
 
-/// Writes behind the text the warning of each setting that other daemons heed.
+/// Adds the warning of each setting that other daemons heed.
 fn push_unheeded(
     alloc: Global,
     text: &mut Vec<u8>,
@@ -71,7 +82,7 @@ fn push_unheeded(
     Ok(())
 }
 
-/// Writes behind the text the warning of the first user that is probably a command.
+/// Adds the warning of the first user that is probably a command.
 fn push_no_user(
     alloc: Global,
     text: &mut Vec<u8>,
@@ -95,15 +106,17 @@ fn push_no_user(
     Ok(())
 }
 
-/// Writes behind the text what is to be warned of in a table of these bytes.
+/// Adds what there is to note and to warn of in a table of these bytes, to which others may write
+/// or not.
 pub(crate) fn push_warnings(
     alloc: Global,
     text: &mut Vec<u8>,
     path: &str,
     bytes: &[u8],
+    is_open: bool,
     table: &Table,
 ) -> Result<(), AllocError> {
-    push_no_newline(text, path, bytes)?;
+    push_unread(text, path, bytes, is_open)?;
     let table = match table {
         Table::System(table) => {
             push_unheeded(alloc, text, path, table.settings())?;

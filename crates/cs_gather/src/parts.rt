@@ -3,7 +3,7 @@ ghost use Rattle.cs_gather.specs.Listing.{NoneRead};
 
 use crate::below::{Shelf, Unlisted, found_at, joined, names_at};
 use crate::line::Gathered;
-use crate::note::{push_at, push_passed_over};
+use crate::note::{push_at, push_ignored};
 use crate::root::front;
 use cs_civil::{Bytes, Sequence};
 use cs_command::{RunParts, run_parts};
@@ -11,7 +11,7 @@ use cs_io::{FileKind, Folders};
 use std::alloc::{AllocError, Global};
 
 /// The names of the parts in a folder, in their order; nothing if there is no such folder. What
-/// run-parts(8) doesn't run is passed over.
+/// run-parts(8) doesn't run is ignored.
 fn names_in<I: Folders>(
     alloc: Global,
     inputs: &mut I,
@@ -37,7 +37,7 @@ fn names_in<I: Folders>(
         };
         match why {
             None => names.push(Bytes::from_slice(alloc, name.as_slice())?)?,
-            Some(why) => push_passed_over(notes, folder.as_str(), name.as_slice(), why)?,
+            Some(why) => push_ignored(notes, folder.as_str(), name.as_slice(), why)?,
         }
     }
     Ok(Some(names))
@@ -96,7 +96,7 @@ fn is_without_anacron(command: &[u8]) -> bool {
         || command.starts_with(b"[ -x /usr/sbin/anacron ] ||".as_slice())
 }
 
-/// Tells it of a command of the table at a path that anacron keeps from running anything.
+/// Adds a note on a command of the table at a path that anacron keeps from running anything.
 fn push_anacron<I: Folders>(
     alloc: Global,
     inputs: &mut I,
@@ -123,7 +123,7 @@ fn push_anacron<I: Folders>(
 }
 
 /// The parts of each of these commands of the table at a path, where a root folder is asked. A
-/// folder that can't be read is told.
+/// warning names a folder that can't be read.
 pub(crate) fn parts_asked<I: Folders>(
     alloc: Global,
     inputs: &mut I,

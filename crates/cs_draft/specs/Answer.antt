@@ -1,11 +1,10 @@
 -- What is answered to `draft`.
-use Rattle.std.specs.Prelude.{◌≡◌, ◌⊎◌, ◌==◌, ℕ, ℤ, Bool, true, false, List, [], All, Option, Some, None}
+use Rattle.std.specs.Prelude.{◌≡◌, ◌⊎◌, ℕ, ℤ, Bool, true, false, List, [], All, Option, Some, None}
 use Rattle.std.specs.Prelude.{option_map, IfSome, Result, Ok, Err}
-use Rattle.std.specs.List.{list_any}
 use Rattle.std.specs.Result.{result_map_both}
 use Rattle.clap.specs.Words.{Text}
 use Rattle.cs_crontab.specs.Crontab.{CommandLine, Table}
-use Rattle.cs_anacrontab.specs.Anacrontab.{Table as JobTable}
+use Rattle.cs_anacrontab.specs.Anacrontab.{JobLine, Table as JobTable}
 use Rattle.cs_place.specs.declared.places.Place.{Place}
 use Rattle.cs_plan.specs.Plain.{is_possible_max}
 use Rattle.cs_decl.specs.declared.entries.Entries.{Entries}
@@ -17,7 +16,7 @@ use Rattle.cs_files.specs.Asked.{Answers, FindsTables}
 use Rattle.cs_files.specs.Reads.{AndThen, Gives, GivesSome, ReadsEntries}
 use Rattle.cs_files.specs.Response.{Ending}
 use Rattle.cs_files.specs.Trouble.{InWords, TellsPath, Trouble}
-use Rattle.cs_retrace.specs.Maxes.{given_in}
+use Rattle.cs_retrace.specs.Maxes.{given_in, has_job}
 use Rattle.cs_retrace.specs.declared.maxes.Given.{Given}
 use Rattle.cs_draft.specs.declared.answer.Draftable.{Draftable}
 
@@ -41,18 +40,18 @@ updated offset (Some old) = old
 abbrev pub IsRefused : Ending → Type 0
 IsRefused ending = (ending.status ≡ 3) × (ending.out ≡ [])
 
--- the crontab has a line for which a longest time is given
-abbrev pub is_line : List CommandLine → Given → Bool
-is_line lines g = list_any (λ line. line.number == g.number) lines
+-- a longest time is given for a job of the tables
+abbrev pub IsOfTables : List CommandLine → List JobLine → Given → Type 0
+IsOfTables lines jobs g = has_job lines jobs g.name ≡ true
 
 -- It is printed with the longest times that a text gives. A text with a fault is refused, and so is
--- one that gives a longest time to a line that the crontab doesn't have.
+-- one that gives a longest time to a job that the tables don't have.
 abbrev pub PrintsTimed : Table → JobTable → List Place → Entries → ℕ → Option (List Given) → Ending
     → Type 0
 PrintsTimed table jobs places old max None ending = IsRefused ending
 PrintsTimed table jobs places old max (Some given) ending =
-    ((All (λ g. is_line table.lines g ≡ true) given → ⊥) × IsRefused ending)
-    ⊎ (All (λ g. is_line table.lines g ≡ true) given
+    ((All (IsOfTables table.lines jobs.lines) given → ⊥) × IsRefused ending)
+    ⊎ (All (IsOfTables table.lines jobs.lines) given
     × PrintsUpdate table jobs places old max given ending)
 
 -- and so of what was read

@@ -35,6 +35,7 @@ use Rattle.cs_command.specs.Timeouts.{asked_for, program_of, time_limit}
 use Rattle.cs_retrace.specs.Maxes.{max_of}
 use Rattle.cs_retrace.specs.Words.{if_so}
 use Rattle.cs_retrace.specs.declared.maxes.Given.{Given}
+use Rattle.cs_retrace.specs.declared.maxes.JobName.TheVariants.{Identifier, Line as OfLine}
 
 -- the lines have one command; and one schedule, if that is asked for
 abbrev pub are_like : Bool → CommandLine → CommandLine → Bool
@@ -104,7 +105,7 @@ time_for command mode max =
 abbrev pub time_of : List Given → CommandLine → Bool → Mode → Option ℕ
 time_of given line whole mode = if whole then option_and_then
     (λ max. if_so (nat_le (time_for line.command mode max) MAX_MINUTES)
-    (time_for line.command mode max)) (max_of given line.number) else None
+    (time_for line.command mode max)) (max_of given (OfLine line.number)) else None
 
 -- An entry has the time that is given, which is no guess, and no parts; or where none is, times as
 -- without it.
@@ -161,7 +162,8 @@ IsAdded New Defaulted true (Some default) entry = IsSomeAnd entry (Defaulted def
 
 -- that is a lock that it takes, or a time that is given
 abbrev pub has_own : List Given → CommandLine → Bool
-has_own given line = is_some (lock_of line.command) || is_some (max_of given line.number)
+has_own given line =
+    is_some (lock_of line.command) || is_some (max_of given (OfLine line.number))
 
 -- the text is this one
 abbrev pub is_text : List ℕ → Option (List ℕ) → Bool
@@ -255,19 +257,42 @@ pub record IsUpdatedLine (lines : List CommandLine) (places : List Place) (old :
       × IfSome (find (λ e. is_named e.name line) new.cron)
       (IsLocked new.groups (lock_of line.command))
 
--- An anacron job keeps what its old entry declares. One that has none has a new one, with the asked
--- time, or that of its command, the least weight and no group; or none if there is a default.
-abbrev pub IsJobEntry : ℕ → List ℕ → Option DefaultEntry → Option AnacronEntry
-    → Option AnacronEntry → Type 0
-IsJobEntry max command default (Some o) new = IsSomeAnd new (λ n. (n.max ≡ o.max)
-    × (n.weight ≡ o.weight) × (n.group ≡ o.group) × (n.guess ≡ o.guess))
-IsJobEntry max command (Some default) None new = new ≡ None
-IsJobEntry max command None None new = IsSomeAnd new (λ n. (n.weight ≡ pos 1) × (n.group ≡ None)
-    × (n.max ≡ pos (asked_for max command)) × (n.guess ≡ is_guess command n.max))
+-- the longest time of an anacron job, where one is given: no less than timeout(1) allows its command
+abbrev pub job_time : List Given → JobLine → Option ℕ
+job_time given job =
+    option_map (greater (time_limit job.command)) (max_of given (Identifier job.identifier))
 
-abbrev pub IsUpdatedJob : Entries → ℕ → Entries → JobLine → Type 0
-IsUpdatedJob old max new line = IsJobEntry max line.command old.default
-    (find (is_of_job line.identifier) old.anacron) (find (is_of_job line.identifier) new.anacron)
+-- a longest time, and whether it is a guess: the one that is given is none; or where none is, these
+abbrev pub given_or : Option ℕ → ℤ × Bool → ℤ × Bool
+given_or None times = times
+given_or (Some max) times = (pos max, false)
+
+-- the asked one, or that of the command
+abbrev pub new_times : ℕ → List ℕ → ℤ × Bool
+new_times asked command =
+    (pos (asked_for asked command), is_guess command (pos (asked_for asked command)))
+
+-- the entry of an anacron job has this weight, this group and these times
+abbrev pub HasTerms : ℤ → Option (List ℕ) → ℤ × Bool → AnacronEntry → Type 0
+HasTerms weight group times e = (e.weight ≡ weight) × (e.group ≡ group)
+    × (e.max ≡ times.0) × (e.guess ≡ times.1)
+
+-- An anacron job keeps what its old entry declares, but for a time that is given. One that has none
+-- has a new one, of the least weight and in no group. If there is a default, it has that weight, and
+-- there is one only if a time is given.
+abbrev pub IsJobEntry : Option ℕ → ℤ × Bool → Option DefaultEntry → Option AnacronEntry
+    → Option AnacronEntry → Type 0
+IsJobEntry time times default (Some o) new =
+    IsSomeAnd new (HasTerms o.weight o.group (given_or time (o.max, o.guess)))
+IsJobEntry None times (Some default) None new = new ≡ None
+IsJobEntry (Some max) times (Some default) None new =
+    IsSomeAnd new (HasTerms default.weight None (pos max, false))
+IsJobEntry time times None None new = IsSomeAnd new (HasTerms (pos 1) None (given_or time times))
+
+abbrev pub IsUpdatedJob : Entries → ℕ → List Given → Entries → JobLine → Type 0
+IsUpdatedJob old max given new line = IsJobEntry (job_time given line)
+    (new_times max line.command) old.default (find (is_of_job line.identifier) old.anacron)
+    (find (is_of_job line.identifier) new.anacron)
 
 -- All else is as it was, but that groups may be added, of which each is exclusive and that of an
 -- entry.
@@ -275,7 +300,7 @@ pub record AreUpdates (crontab : Crontab) (anacrontab : Anacrontab) (places : Li
     (old : Entries) (max : ℕ) (given : List Given) (new : Entries) : Type 0 where
   pub lines : All (IsUpdatedLine crontab.lines places old (left_behind crontab.lines old) max given
       new) crontab.lines
-  pub jobs : All (IsUpdatedJob old max new) anacrontab.lines
+  pub jobs : All (IsUpdatedJob old max given new) anacrontab.lines
   pub capacity : new.capacity ≡ old.capacity
   pub offset : new.offset ≡ old.offset
   pub hours : new.hours ≡ old.hours

@@ -6,12 +6,12 @@ ghost use Rattle.std.specs.List.{list_all, list_any};
 ghost use Rattle.cs_decl.specs.Join.{is_left_out, is_named};
 ghost use Rattle.cs_schedule.specs.Gap.{AreApart, can_be_apart};
 ghost use Rattle.cs_schedule.specs.declared.gap.TheConstants.{MAX_GAP};
-ghost use Rattle.cs_draft.specs.Draft.{AreAlike, HasNewTimes, IsAdded, IsDefaultEntry, IsLocked};
+ghost use Rattle.cs_draft.specs.Draft.{AreAlike, HasNewTimes, HasTerms, IsAdded, IsDefaultEntry, IsLocked};
 ghost use Rattle.cs_draft.specs.Draft.{IsNewEntry, IsUpdatedJob, IsUpdatedLine, has_own, is_guess};
-ghost use Rattle.cs_draft.specs.Draft.{is_new_group, is_text, may_follow, parts_of};
+ghost use Rattle.cs_draft.specs.Draft.{is_new_group, is_text, may_follow, new_times, parts_of};
 ghost use Rattle.cs_command.specs.Locks.{lock_of};
 
-use crate::given::{has_given, has_time, time_of};
+use crate::given::{given_or, has_given, has_time, job_time, time_of};
 use crate::kept::{are_alike, is_kept, is_new, may_follow};
 use crate::names::{entry_of, is_left_out, is_text, job_entry};
 use crate::parts::{has_parts, parts_of};
@@ -19,7 +19,7 @@ use cs_anacrontab::Job;
 use cs_civil::Bytes;
 use cs_command::{asked_for, own_lock, time_limit};
 use cs_crontab::{Line, When};
-use cs_decl::{CronEntry, DefaultEntry, Entries, GroupEntry};
+use cs_decl::{AnacronEntry, CronEntry, DefaultEntry, Entries, GroupEntry};
 use cs_history::Mode;
 use cs_place::Place;
 use cs_plan::MAX_GROUPS;
@@ -229,31 +229,56 @@ pub(crate) fn is_updated_line(
 
 // ---- anacron jobs and groups
 
-/// Whether the anacron job keeps what its old entry declares, or is added.
-pub(crate) fn is_updated_job(old: &Entries, max: u64, new: &Entries, job: &Job) -> bool
-    ensures { IsTrue result → IsUpdatedJob old.now max new.now job.now }
+/// Whether there is an entry with this weight, this group and these times.
+fn has_terms(
+    weight: i128,
+    group: &Option<Bytes>,
+    times: (i128, bool),
+    entry: Option<&AnacronEntry>,
+) -> bool
+    ensures { IsTrue result
+        → IsSomeAnd (option_map (λ e. e.now) entry.entry) (HasTerms weight group.now times) }
 {
+    let Some(entry) = entry else {
+        return false;
+    };
+    entry.weight == weight
+        && entry.group == *group
+        && entry.max == times.0
+        && entry.guess == times.1
+}
+
+/// The longest time of a new anacron job, and whether it is a guess.
+fn new_times(asked: u64, command: &[u8]) -> (i128, bool)
+    ensures { result ≡ new_times asked command.now }
+{
+    let max = i128::from(asked_for(asked, command));
+    (max, is_guess(command, max))
+}
+
+/// Whether the anacron job keeps what its old entry declares, or is added.
+pub(crate) fn is_updated_job(
+    old: &Entries,
+    max: u64,
+    given: &[Given],
+    new: &Entries,
+    job: &Job,
+) -> bool
+    ensures { IsTrue result → IsUpdatedJob old.now max given.now new.now job.now }
+{
+    let time = job_time(given, job);
     let entry = job_entry(new, job.identifier());
-    match (job_entry(old, job.identifier()), &old.default) {
-        (Some(before), _) => match entry {
-            Some(entry) => {
-                entry.max == before.max
-                    && entry.weight == before.weight
-                    && entry.group == before.group
-                    && entry.guess == before.guess
-            }
-            None => false,
-        },
-        (None, Some(_)) => entry.is_none(),
-        (None, None) => match entry {
-            Some(entry) => {
-                entry.max == i128::from(asked_for(max, job.command()))
-                    && entry.weight == 1
-                    && entry.group.is_none()
-                    && entry.guess == is_guess(job.command(), entry.max)
-            }
-            None => false,
-        },
+    let times = new_times(max, job.command());
+    match (job_entry(old, job.identifier()), &old.default, time) {
+        (Some(before), _, _) => {
+            let times = given_or(time, (before.max, before.guess));
+            has_terms(before.weight, &before.group, times, entry)
+        }
+        (None, Some(_), None) => entry.is_none(),
+        (None, Some(default), Some(max)) => {
+            has_terms(default.weight, &None, (i128::from(max), false), entry)
+        }
+        (None, None, _) => has_terms(1, &None, given_or(time, times), entry),
     }
 }
 

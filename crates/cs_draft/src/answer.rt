@@ -7,63 +7,72 @@ ghost use Rattle.cs_files.specs.Asked.{Tells, Warns};
 ghost use Rattle.cs_files.specs.Ending.{sink};
 ghost use Rattle.cs_files.specs.Trouble.{CameTo, IsHonestOf};
 ghost use Rattle.cs_files.specs.Turn.{draft_paths, some_path};
-ghost use Rattle.cs_draft.specs.Answer.{FindsDraftable, IsRefused, PrintsDraft, PrintsUpdate, ReadsOld};
-ghost use Rattle.cs_draft.specs.Answer.{ReadsText, entries_in, is_line, updated};
+ghost use Rattle.cs_draft.specs.Answer.{FindsDraftable, IsRefused, IsOfTables, PrintsDraft, PrintsUpdate};
+ghost use Rattle.cs_draft.specs.Answer.{ReadsOld, ReadsText, entries_in, updated};
 
 use crate::draft::{draw_up, update};
+use cs_anacrontab::Job;
 use cs_args::{DraftWords, WordFault};
 use cs_civil::Bytes;
 use cs_crontab::Line;
 use cs_decl::{Declarations, read_declarations};
 use cs_files::{Fault, Response, Status, Tables, all_bytes_at, declared_fault, find_tables};
 use cs_io::{Inputs, Output};
+use cs_place::push_shown;
 use cs_plan::is_possible_max;
-use cs_retrace::{Given, MaxFault, read_maxes};
+use cs_retrace::{Given, JobName, MaxFault, has_job, read_maxes};
 use std::alloc::{AllocError, Global};
 
-/// What is answered of a line of a text of longest times that has a fault: `PATH line 3: ..`.
-fn refused(alloc: Global, path: &str, place: u64, reason: &str) -> Result<Response, AllocError>
+/// What is answered of a line of a text of longest times that has a fault: `PATH line 3: ..`, with the
+/// name of the job, if the line has one.
+fn refused(
+    alloc: Global,
+    path: &str,
+    place: u64,
+    name: Option<&JobName>,
+    reason: &str,
+) -> Result<Response, AllocError>
     ensures { IfOk result IsRefused }
 {
-    let fault = format!(in alloc; "{path} line {place}: {reason}")?;
-    Response::fault(alloc, Status::BadInput, b"".as_slice(), fault.as_bytes())
+    let mut fault = format!(in alloc; "{path} line {place}: ")?.into_bytes();
+    if let Some(name) = name {
+        push_shown(&mut fault, name.text(alloc)?.as_slice())?;
+    }
+    fault.extend_from_slice(reason.as_bytes())?;
+    Response::fault(alloc, Status::BadInput, b"".as_slice(), fault.as_slice())
 }
 
 /// What is answered where a text of longest times can't be read.
-fn misread(alloc: Global, path: &str, place: u64, fault: MaxFault) -> Result<Response, AllocError>
+fn misread(alloc: Global, path: &str, place: u64, fault: &MaxFault) -> Result<Response, AllocError>
     ensures { IfOk result IsRefused }
 {
-    let reason = match fault {
-        MaxFault::Shape => format!(in alloc; "not of the form 'line 3 25'")?,
-        MaxFault::Range(number) => {
-            format!(in alloc;
-                "line {number} gets a longest time that isn't from 1 to 4320 minutes"
-            )?
-        }
-        MaxFault::Twice(number) => {
-            format!(in alloc; "line {number} has a longest time already")?
-        }
+    let (name, reason) = match fault {
+        MaxFault::Shape => (None, "not of the form 'line 3 25' or 'job cron.daily 25'"),
+        MaxFault::Range(name) => (
+            Some(name),
+            " gets a longest time that isn't from 1 to 4320 minutes",
+        ),
+        MaxFault::Twice(name) => (Some(name), " has a longest time already"),
     };
-    refused(alloc, path, place, reason.as_str())
+    refused(alloc, path, place, name, reason)
 }
 
-/// Whether the crontab has such a line.
-fn is_line(lines: &[Line], given: &Given) -> bool
-    ensures { result ≡ is_line lines.now given.now }
-{
-    lines
-        .iter()
-        .any(|line| u64::from(line.number()) == given.number)
+/// Why no job has that name.
+fn unknown(name: &JobName) -> &'static str {
+    match name {
+        JobName::Line(_) => " of the crontab has no job",
+        JobName::Identifier(_) => " is in no table that --anacrontab gives",
+    }
 }
 
-/// The first longest time that is given for no line of the crontab.
-fn first_unknown(lines: &[Line], given: &[Given]) -> Option<Given>
-    ensures none { IsNone result → All (λ g. is_line lines.now g ≡ true) given.now }
-    ensures some { IfSome result (λ g. All (λ g. is_line lines.now g ≡ true) given.now → ⊥) }
+/// The first longest time that is given for no job of the tables.
+fn first_unknown<'g>(lines: &[Line], jobs: &[Job], given: &'g [Given]) -> Option<&'g Given>
+    ensures none { IsNone result → All (IsOfTables lines.now jobs.now) given.now }
+    ensures some { IfSome result (λ g. All (IsOfTables lines.now jobs.now) given.now → ⊥) }
 {
     for one in given {
-        if !is_line(lines, one) {
-            return Some(*one);
+        if !has_job(lines, jobs, &one.name) {
+            return Some(one);
         }
     }
     None
@@ -208,12 +217,11 @@ pub fn answer_draft(
     let path = words.maxes.unwrap_or("");
     let given = match read_maxes(alloc, found.maxes.as_slice())? {
         Ok(given) => given,
-        Err((place, fault)) => return misread(alloc, path, place, fault),
+        Err((place, fault)) => return misread(alloc, path, place, &fault),
     };
-    if let Some(one) = first_unknown(found.tables.crontab.lines(), given.as_slice()) {
-        let number = one.number;
-        let reason = format!(in alloc; "line {number} of the crontab has no job")?;
-        return refused(alloc, path, one.place, reason.as_str());
+    let (lines, jobs) = (found.tables.crontab.lines(), found.tables.jobs.lines());
+    if let Some(one) = first_unknown(lines, jobs, given.as_slice()) {
+        return refused(alloc, path, one.place, Some(&one.name), unknown(&one.name));
     }
     show(alloc, words.max, offset, found, given.as_slice())
 }

@@ -79,11 +79,11 @@ fn are_updated_lines(
     Ok(true)
 }
 
-fn are_updated_jobs(old: &Entries, max: u64, new: &Entries, jobs: &[Job]) -> bool
-    ensures { IsTrue result → All (IsUpdatedJob old.now max new.now) jobs.now }
+fn are_updated_jobs(old: &Entries, max: u64, given: &[Given], new: &Entries, jobs: &[Job]) -> bool
+    ensures { IsTrue result → All (IsUpdatedJob old.now max given.now new.now) jobs.now }
 {
     for job in jobs {
-        if !is_updated_job(old, max, new, job) {
+        if !is_updated_job(old, max, given, new, job) {
             return false;
         }
     }
@@ -106,7 +106,7 @@ fn are_updates(
 {
     if !are_terms(old, new)
         || !are_new_groups(old, new)
-        || !are_updated_jobs(old, max, new, jobs.lines())
+        || !are_updated_jobs(old, max, given, new, jobs.lines())
     {
         return Ok(false);
     }

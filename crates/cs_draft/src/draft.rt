@@ -26,11 +26,12 @@ use std::alloc::{AllocError, Global};
 /// parts, and the places tell others, those that stay keep their longest times, and the longest time
 /// is the new sum. Where one entry alone is left and one command alone is new, that has the entry if
 /// it runs the same program, no other schedule is told, and it takes the entry's lock. An anacron job
-/// keeps what is declared of its identifier, and all else is as before. What is new is declared as by
-/// [`draw_up`]; where there is a default, only a new command with a lock has an entry, with the
-/// default's longest time. What is new or gone is told, but of a draft. What is drawn up was read back,
-/// compared with the old declarations and the commands, and joined with the tables; there is none where
-/// it doesn't pass, which isn't meant to come. The only error is want of memory.
+/// keeps what is declared of its identifier, but for a time that is given, and all else is as before.
+/// What is new is declared as by [`draw_up`]; where there is a default, only a new command with a lock
+/// has an entry, with the default's longest time, and a job for which a time is given. What is new or
+/// gone is told, but of a draft. What is drawn up was read back, compared with the old declarations and
+/// the commands, and joined with the tables; there is none where it doesn't pass, which isn't meant to
+/// come. The only error is want of memory.
 pub(crate) fn update(
     alloc: Global,
     table: &Crontab,
@@ -87,7 +88,8 @@ pub(crate) fn update(
 /// program that locks files has no lock, and a warning says how to declare one. `@reboot` lines are
 /// left out, each with a warning. A command without parts whose line has a longest time that is
 /// given has that, one minute more where its runs wait for a lock, and no less than timeout(1)
-/// allows it, where a job may have as much. The remarks are passed on.
+/// allows it, where a job may have as much; and so has an anacron job, which waits for no lock. The
+/// remarks are passed on.
 pub(crate) fn draw_up(
     alloc: Global,
     table: &Crontab,

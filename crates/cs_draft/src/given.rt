@@ -1,13 +1,25 @@
-//! The longest times that are given for the lines of a crontab.
-ghost use Rattle.std.specs.Prelude.{◌≡◌, [], IfSome, IsTrue, false, option_map};
-ghost use Rattle.cs_draft.specs.Draft.{HasGiven, time_of};
+//! The longest times that are given for jobs.
+ghost use Rattle.std.specs.Prelude.{◌≡◌, [], IfSome, IsTrue, false, option_map, pos};
+ghost use Rattle.cs_command.specs.Timeouts.{time_limit};
+ghost use Rattle.cs_draft.specs.Draft.{HasGiven, given_or, greater, job_time, time_of};
 
+use cs_anacrontab::Job;
 use cs_command::time_limit;
 use cs_crontab::Line;
 use cs_decl::CronEntry;
 use cs_history::Mode;
 use cs_plan::MAX_MINUTES;
-use cs_retrace::{Given, max_of};
+use cs_retrace::{Given, max_of, max_of_identifier};
+
+/// The longest time, or what timeout(1) allows the command if that is more.
+fn greater(command: &[u8], max: u64) -> u64
+    ensures { result ≡ greater (time_limit command.now) max }
+{
+    match time_limit(command) {
+        Some(limit) => limit.max(max),
+        None => max,
+    }
+}
 
 /// The longest time of a command of this mode as a whole, where one is given, and a job may have it: a
 /// minute more where a run may begin inside a minute, or what timeout(1) allows if that is more.
@@ -19,14 +31,29 @@ pub(crate) fn time_of(given: &[Given], line: &Line, is_whole: bool, mode: Mode) 
     }
     let max = max_of(given, u64::from(line.number()))?;
     let max = max.saturating_add(if mode.waits() { 1 } else { 0 });
-    let max = match time_limit(line.command()) {
-        Some(limit) => limit.max(max),
-        None => max,
-    };
+    let max = greater(line.command(), max);
     if max > u64::from(MAX_MINUTES) {
         return None;
     }
     Some(max)
+}
+
+/// The longest time of an anacron job, where one is given: no less than timeout(1) allows its command.
+pub(crate) fn job_time(given: &[Given], job: &Job) -> Option<u64>
+    ensures { result ≡ job_time given.now job.now }
+{
+    let max = max_of_identifier(given, job.identifier())?;
+    Some(greater(job.command(), max))
+}
+
+/// The time that is given, which is no guess; or where none is, these.
+pub(crate) fn given_or(time: Option<u64>, times: (i128, bool)) -> (i128, bool)
+    ensures { result ≡ given_or time times }
+{
+    match time {
+        Some(max) => (i128::from(max), false),
+        None => times,
+    }
 }
 
 /// Whether the entry of a line, if there is one, has the time that is given.

@@ -7,6 +7,7 @@ mod answer;
 mod confirm;
 mod draft;
 mod given;
+mod jobs;
 mod kept;
 mod layout;
 mod names;

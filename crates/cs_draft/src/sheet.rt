@@ -27,7 +27,7 @@ pub(crate) struct Asked<'a> {
     /// The lines of the crontab, and their places.
     pub(crate) lines: &'a [Line],
     pub(crate) places: &'a [Place],
-    /// The longest time of a new job in minutes, and those that are given for lines.
+    /// The longest time of a new job in minutes, and those that are given.
     pub(crate) max: u64,
     pub(crate) given: &'a [Given],
 }
@@ -207,18 +207,17 @@ pub(crate) fn add_new(
         Some((_, mode)) => mode,
         None => Mode::Plain,
     };
-    let command = line.command();
     match (
         time_given(alloc, told, asked.given, line, names.is_empty(), mode)?,
         default,
     ) {
         (Some(max), _) => add_number(alloc, cron, "max", max)?,
         (None, Some(default)) => add_members(alloc, cron, COMMA, default, ["max"].as_slice())?,
-        (None, None) => add_new_times(alloc, cron, command, schedule, asked.max, names)?,
+        (None, None) => add_new_times(alloc, cron, told, line, schedule, asked.max, names)?,
     }
     match default {
         Some(default) => add_members(alloc, cron, COMMA, default, ["weight"].as_slice())?,
-        None => tell_times(alloc, told, CRONTAB, line.number(), command)?,
+        None => tell_times(alloc, told, CRONTAB, line.number(), line.command())?,
     }
     if let Some((file, mode)) = group {
         add_text(alloc, cron, "group", file)?;

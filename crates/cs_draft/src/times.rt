@@ -4,8 +4,10 @@ use crate::added::{brief_max, is_guess};
 use crate::layout::{COMMA, Done, add, add_members, add_number, add_text, begin};
 use crate::old::{item_of, items};
 use crate::parts::part_of;
+use crate::told::tell_of;
 use cs_civil::Bytes;
 use cs_command::asked_for;
+use cs_crontab::Line;
 use cs_decl::PartEntry;
 use cs_plan::MAX_MINUTES;
 use cs_schedule::Schedule;
@@ -59,17 +61,32 @@ pub(crate) fn add_max(alloc: Global, entry: &mut Vec<u8>, max: u64, is_guess: bo
     Ok(())
 }
 
+/// Tells that nobody has measured the longest times of the parts of a line.
+fn tell_default(alloc: Global, told: &mut Vec<u8>, line: &Line, count: u64, share: u64) -> Done {
+    let (part, each) = if count == 1 {
+        ("part", "")
+    } else {
+        ("parts", " each")
+    };
+    let what = format!(in alloc;
+        " runs {count} {part} of {share} min{each}: a default, not a measurement"
+    )?;
+    let number = u64::from(line.number());
+    tell_of(alloc, told, "note: line ", number, what.as_str(), "", "")
+}
+
 /// Adds the longest time of a new command in minutes, and its parts: each has an equal share of a time
 /// that is brief, but at least one minute.
 pub(crate) fn add_new_times(
     alloc: Global,
     entry: &mut Vec<u8>,
-    command: &[u8],
+    told: &mut Vec<u8>,
+    line: &Line,
     schedule: &Schedule,
     asked: u64,
     names: &[Bytes],
 ) -> Done {
-    let asked = asked_for(asked, command);
+    let asked = asked_for(asked, line.command());
     let count = (names.len() as u64).max(1);
     let all = asked.saturating_mul(count).min(u64::from(MAX_MINUTES));
     let share = brief_max(schedule, all)
@@ -77,9 +94,13 @@ pub(crate) fn add_new_times(
         .unwrap_or(1)
         .max(1);
     let max = share.saturating_mul(count);
-    add_max(alloc, entry, max, is_guess(command, i128::from(max)))?;
+    let is_guess = is_guess(line.command(), i128::from(max));
+    add_max(alloc, entry, max, is_guess)?;
     if names.is_empty() {
         return Ok(());
+    }
+    if is_guess {
+        tell_default(alloc, told, line, count, share)?;
     }
     add_parts(alloc, entry, &[], names, share)
 }

@@ -1,17 +1,18 @@
 //! The declarations of tables, beside those that there are already.
 
 use crate::added::is_locked;
+use crate::given::job_time;
+use crate::jobs::{add_kept_job, add_new_job};
 use crate::kept::{is_new, left_behind, may_follow};
 use crate::layout::{COMMA, Done, ENTRY, LINE, add, add_members, add_text, begin};
 use crate::names::is_text;
 use crate::old::{
     Bound, Old, Pair, bound_in, entry_at, has_line, item_of, items, pairs_of, text_of,
 };
-use crate::sheet::{Asked, add_kept, add_new, leave_out, tell_times};
-use crate::times::add_max;
+use crate::sheet::{Asked, add_kept, add_new, leave_out};
 use crate::told::{ANACRONTAB, CRONTAB, remark, tell, tell_of, warn};
 use cs_anacrontab::{Anacrontab, Job};
-use cs_command::{Lock, asked_for, lock_of, names_lock, own_lock, time_limit};
+use cs_command::{Lock, lock_of, names_lock, own_lock};
 use cs_crontab::{Line, When};
 use cs_decl::Entries;
 use cs_diagnostics::shown;
@@ -228,51 +229,42 @@ impl Sheet {
         Ok(())
     }
 
-    /// Adds an anacron job: as it was declared, or as a new one, unless there is a default.
+    /// Adds an anacron job: as it was declared but for a time that is given, or as a new one, unless
+    /// there is a default and no such time.
     fn add_job(
         &mut self,
         alloc: Global,
-        max: u64,
+        asked: Asked<'_>,
         old: Old<'_>,
         job: &Job,
         identifier: &str,
     ) -> Done {
         let entry = item_of(items(old.value, "anacron"), "id", identifier.as_bytes());
-        let command = job.command();
-        if entry.is_some() || old.value.get("default").is_none() {
+        let time = job_time(asked.given, job);
+        if entry.is_some() || time.is_some() || old.value.get("default").is_none() {
             begin(&mut self.anacron, ENTRY)?;
             add_text(alloc, &mut self.anacron, "id", identifier)?;
+            let (anacron, told) = (&mut self.anacron, &mut self.told);
             match entry {
-                Some(old) => {
-                    let names = ["max", "guess", "weight", "group", "note"];
-                    add_members(alloc, &mut self.anacron, COMMA, old, names.as_slice())?;
-                }
-                None => {
-                    if !old.is_draft {
-                        let job = shown(alloc, identifier.as_bytes())?;
-                        tell(&mut self.told, "note: job ", job.as_str(), " is new")?;
-                    }
-                    let max = asked_for(max, command);
-                    add_max(alloc, &mut self.anacron, max, time_limit(command).is_none())?;
-                    tell_times(alloc, &mut self.told, ANACRONTAB, job.number(), command)?;
-                }
+                Some(entry) => add_kept_job(alloc, anacron, told, old, job, time, entry)?,
+                None => add_new_job(alloc, anacron, told, old, job, time, asked.max)?,
             }
             self.anacron.extend_from_slice(b"}")?;
         } else {
             self.defaulted = self.defaulted.saturating_add(1);
         }
-        if entry.is_none() && names_lock(command) {
+        if entry.is_none() && names_lock(job.command()) {
             let reason = " is declared without a lock: anacron jobs have no mode";
             return warn(alloc, &mut self.told, ANACRONTAB, job.number(), reason);
         }
         Ok(())
     }
 
-    fn add_jobs(&mut self, alloc: Global, max: u64, old: Old<'_>, jobs: &[Job]) -> Done {
+    fn add_jobs(&mut self, alloc: Global, asked: Asked<'_>, old: Old<'_>, jobs: &[Job]) -> Done {
         for job in jobs {
             // the identifiers of a table that was read are UTF-8
             if let Ok(identifier) = str::from_utf8(job.identifier()) {
-                self.add_job(alloc, max, old, job, identifier)?;
+                self.add_job(alloc, asked, old, job, identifier)?;
             }
         }
         Ok(())
@@ -392,7 +384,7 @@ pub(crate) fn updated_text(
     }
     sheet.add_lines(alloc, asked, old, bound.as_slice(), pairs.as_slice())?;
     tell_gone(alloc, &mut sheet.told, bound.as_slice(), pairs.as_slice())?;
-    sheet.add_jobs(alloc, asked.max, old, jobs.lines())?;
+    sheet.add_jobs(alloc, asked, old, jobs.lines())?;
     tell_gone_jobs(alloc, &mut sheet.told, jobs.lines(), old.value)?;
     tell_defaulted(alloc, &mut sheet.told, sheet.defaulted)?;
     let text = whole(alloc, old.value, &sheet)?;

@@ -9,12 +9,17 @@ use Rattle.cs_io.specs.declared.inputs.ReadFault.TheVariants.{CannotRead, OutOfM
 use Rattle.cs_files.specs.Asked.{Answers, FindsTables}
 use Rattle.cs_files.specs.Reads.{AndThen, GivesSome}
 use Rattle.cs_files.specs.Response.{Ending}
+use Rattle.cs_files.specs.Turn.{table_paths}
 use Rattle.cs_files.specs.Trouble.{TellsPath, Trouble, Unread}
 use Rattle.cs_files.specs.declared.asked.Tables.{Tables}
 use Rattle.cs_learn.specs.Learned.{IsLearned}
 use Rattle.cs_learn.specs.Max.{factor_in}
 use Rattle.cs_learn.specs.declared.answer.Learnable.{Learnable}
 use Rattle.cs_learn.specs.declared.log.Log.{Log}
+
+-- what `learn` reads: the tables, and then the logs
+abbrev pub learned_paths : AskedLearn → List Text
+learned_paths a = table_paths a.table a.anacrontab ++ a.logs
 
 -- the path of a log could not be read, or took as many reads as it may
 abbrev pub IsUnreadLog : (List ℕ → Option (List ℕ)) → List Text → Failed → Failed → Trouble → Type 0
@@ -32,12 +37,12 @@ abbrev pub AreLearnable : ℕ → Tables → Log → Option Learnable → Type 0
 AreLearnable factor tables log found =
     found ≡ Some (record { factor = factor; tables = tables; log = log })
 
--- the table and then the logs, by the factor that a text is: one that is none ends the call before a
+-- the tables and then the logs, by the factor that a text is: one that is none ends the call before a
 -- file is read
 abbrev pub FindsBy : Option ℕ → AskedLearn → (List ℕ → Option (List ℕ)) → List ℕ → Failed → Failed
     → Result (Option Learnable) Trouble → Type 0
 FindsBy None a files w before after r = (w ≡ []) × (after ≡ before) × (r ≡ Ok None)
-FindsBy (Some factor) a files w before after r = AndThen (FindsTables files a.table None w)
+FindsBy (Some factor) a files w before after r = AndThen (FindsTables files a.table a.anacrontab w)
     (λ tables. AndThen (ReadsLogs files a.logs)
     (λ log. GivesSome (AreLearnable factor tables log))) before after r
 
@@ -59,7 +64,8 @@ no_factor text = record {
 abbrev pub PrintsLearned : Text → Option Learnable → Ending → Type 0
 PrintsLearned factor None ending = ending ≡ no_factor factor
 PrintsLearned factor (Some x) ending =
-    ((ending.status ≡ 0) × IsLearned x.tables.crontab.lines x.log.jobs.items x.factor ending.out)
+    ((ending.status ≡ 0) × IsLearned x.tables.crontab.lines x.tables.jobs.lines x.log.jobs.items
+    x.factor ending.out)
     ⊎ ((ending.status ≡ 2) × (ending.out ≡ []))
 
 -- what is answered to `learn`: that, or the first fault of the files

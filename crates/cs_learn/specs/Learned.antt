@@ -1,8 +1,9 @@
 -- The longest times that logs give.
-use Rattle.std.specs.Prelude.{◌≡◌, ◌==◌, ◌<◌, ℕ, Bool, true, List, All, Option, Some, None, IfSome, IsSomeAnd}
-use Rattle.std.specs.List.{list_all, list_any}
+use Rattle.std.specs.Prelude.{◌≡◌, ◌<◌, ℕ, true, List, All, Option, Some, None, IfSome, IsSomeAnd}
+use Rattle.std.specs.List.{list_all}
 use Rattle.cs_crontab.specs.Crontab.{CommandLine}
-use Rattle.cs_retrace.specs.Maxes.{given_in, max_of}
+use Rattle.cs_anacrontab.specs.Anacrontab.{JobLine}
+use Rattle.cs_retrace.specs.Maxes.{given_in, has_job, max_of}
 use Rattle.cs_retrace.specs.declared.maxes.Given.{Given}
 use Rattle.cs_retrace.specs.declared.maxes.TheConstants.{LONGEST_MAX}
 use Rattle.cs_learn.specs.Max.{IsEnough, IsMax}
@@ -24,20 +25,16 @@ IsMaxOf factor known None = IfSome known.longest (λ ran. (minutes : ℕ)
     → IsEnough ran.seconds (seconds_since known.longest_open) factor minutes
     → LONGEST_MAX < minutes)
 
--- a job is given its max, by the number of its line
+-- a job is given its max, by its name
 abbrev pub Gives : ℕ → List Given → Job → Type 0
-Gives factor given job = IsMaxOf factor job.evidence (max_of given job.number)
+Gives factor given job = IsMaxOf factor job.evidence (max_of given job.name)
 
--- the crontab has a command on the line of a longest time
-abbrev pub is_line : List CommandLine → Given → Bool
-is_line lines g = list_any (λ line. line.number == g.number) lines
-
--- each job is given its max, and each longest time is of a line of the crontab
-abbrev pub AreLearned : List CommandLine → List Job → ℕ → List Given → Type 0
-AreLearned lines jobs factor given =
-    All (Gives factor given) jobs × (list_all (is_line lines) given ≡ true)
+-- each job is given its max, and each longest time is of a job of the tables
+abbrev pub AreLearned : List CommandLine → List JobLine → List Job → ℕ → List Given → Type 0
+AreLearned lines others jobs factor given = All (Gives factor given) jobs
+    × (list_all (λ g. has_job lines others g.name) given ≡ true)
 
 -- The bytes are what is learned of these jobs, as they are read back.
-abbrev pub IsLearned : List CommandLine → List Job → ℕ → List ℕ → Type 0
-IsLearned lines jobs factor bytes =
-    (given : List Given) × (given_in bytes ≡ Some given) × AreLearned lines jobs factor given
+abbrev pub IsLearned : List CommandLine → List JobLine → List Job → ℕ → List ℕ → Type 0
+IsLearned lines others jobs factor bytes =
+    (given : List Given) × (given_in bytes ≡ Some given) × AreLearned lines others jobs factor given

@@ -1,12 +1,12 @@
 //! The subcommand `learn`.
-ghost use Rattle.std.specs.Prelude.{◌≡◌, ◌≢◌, [], IfErr, IfOk, None, OnOk, map};
+ghost use Rattle.std.specs.Prelude.{◌≡◌, ◌≢◌, [], IfErr, IfOk, OnOk, map};
 ghost use Rattle.cs_args.specs.Asked.{asked_learn};
 ghost use Rattle.cs_io.specs.Files.{AreReadInTurn, IsFresh};
 ghost use Rattle.cs_files.specs.Asked.{Tells, Warns};
 ghost use Rattle.cs_files.specs.Ending.{sink};
 ghost use Rattle.cs_files.specs.Trouble.{CameTo, IsHonestOf, trouble};
-ghost use Rattle.cs_files.specs.Turn.{learn_paths};
-ghost use Rattle.cs_learn.specs.Answer.{FindsLearnable, PrintsLearned, ReadsLogs, no_factor, trouble_of};
+ghost use Rattle.cs_learn.specs.Answer.{FindsLearnable, PrintsLearned, ReadsLogs, learned_paths, no_factor};
+ghost use Rattle.cs_learn.specs.Answer.{trouble_of};
 
 use crate::job::jobs_of;
 use crate::learned::learn;
@@ -40,7 +40,7 @@ fn fault_of(unread: Unread<'_>) -> Fault<'_>
     }
 }
 
-/// What the logs at these paths tell of the jobs of the table.
+/// What the logs at these paths tell of the jobs of the tables.
 fn logs_at<'a, I: Inputs>(
     alloc: Global,
     inputs: &mut I,
@@ -55,7 +55,8 @@ fn logs_at<'a, I: Inputs>(
     ensures turn { AreReadInTurn (map (λ path. path.now) paths.now)
         (I.reads inputs.old) (I.reads inputs.new) }
 {
-    let jobs = jobs_of(alloc, tables.crontab.lines(), tables.places.as_slice())?;
+    let (lines, others) = (tables.crontab.lines(), tables.jobs.lines());
+    let jobs = jobs_of(alloc, lines, tables.places.as_slice(), others)?;
     let mut log = Log::new(alloc, jobs);
     match read_logs(alloc, inputs, paths, &mut log) {
         Ok(()) => {
@@ -71,13 +72,13 @@ fn logs_at<'a, I: Inputs>(
 pub struct Learnable {
     /// What the longest times are multiplied by.
     pub factor: Factor,
-    /// The crontab, and an anacrontab without jobs.
+    /// The tables.
     pub tables: Tables,
-    /// What the logs tell of the table's jobs.
+    /// What the logs tell of their jobs.
     pub log: Log,
 }
 
-/// Reads the table and then the logs, and writes to standard error what is to be warned of the table.
+/// Reads the tables and then the logs, and writes to standard error what is to be warned of the tables.
 /// Nothing where the words give no factor.
 pub fn find_learnable<'a, I: Inputs, E: Output>(
     alloc: Global,
@@ -86,20 +87,21 @@ pub fn find_learnable<'a, I: Inputs, E: Output>(
     words: &LearnWords<'a>,
 ) -> Result<Option<Learnable>, Fault<'a>>
     ensures value { IsFresh (I.whole inputs.old) (I.left inputs.old)
-        → Tells (λ w. Warns (I.whole inputs.old) (asked_learn words.now).table None
-        (I.failed inputs.old) (I.reads inputs.old) (I.reads inputs.new) w
+        → Tells (λ w. Warns (I.whole inputs.old) (asked_learn words.now).table
+        (asked_learn words.now).anacrontab (I.failed inputs.old)
+        (I.reads inputs.old) (I.reads inputs.new) w
         × CameTo (FindsLearnable (asked_learn words.now) (I.whole inputs.old) w
         (I.failed inputs.old) (I.failed inputs.new)) result)
         (sink (E.contents err.old) (E.failed err.old))
         (sink (E.contents err.new) (E.failed err.new)) }
     ensures status { IfErr result (IsHonestOf (I.failed inputs.new) (I.reads inputs.new)) }
-    ensures turn { AreReadInTurn (learn_paths (asked_learn words.now))
+    ensures turn { AreReadInTurn (learned_paths (asked_learn words.now))
         (I.reads inputs.old) (I.reads inputs.new) }
 {
     let Some(factor) = Factor::read(words.factor.as_bytes()) else {
         return Ok(None);
     };
-    let tables = find_tables(alloc, inputs, err, words.table, None)?;
+    let tables = find_tables(alloc, inputs, err, words.table, words.anacrontab)?;
     let log = logs_at(alloc, inputs, words.logs.as_slice(), &tables)?;
     Ok(Some(Learnable {
         factor,
@@ -108,7 +110,7 @@ pub fn find_learnable<'a, I: Inputs, E: Output>(
     }))
 }
 
-/// Answers `learn TABLE LOG.. [--factor F]`. The only error is want of memory.
+/// Answers `learn TABLE LOG.. [--anacrontab FILE] [--factor F]`. The only error is want of memory.
 pub fn answer_learn(
     alloc: Global,
     factor: &str,
@@ -122,7 +124,8 @@ pub fn answer_learn(
     };
     let lines = found.tables.crontab.lines();
     let places = found.tables.places.as_slice();
-    match learn(alloc, lines, &found.log, found.factor)? {
+    let others = found.tables.jobs.lines();
+    match learn(alloc, lines, others, &found.log, found.factor)? {
         Some(text) => {
             let told = summary_of(alloc, lines, places, &found.log, found.factor)?;
             Ok(Response::done(text, told))

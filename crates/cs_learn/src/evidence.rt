@@ -1,6 +1,9 @@
 //! What is known of a job's runs.
+use crate::duration::passed;
+use crate::tally::Tally;
 use cs_retrace::Moment;
 use std::alloc::{AllocError, Global};
+use std::collections::BTreeMap;
 
 /// A run that has ended, or of which no line of the logs tells the end.
 #[derive(Clone, Copy)]
@@ -16,8 +19,8 @@ pub struct Ran {
 /// What is known of a job's runs.
 #[derive(Drop)]
 pub struct Evidence {
-    /// How many runs took so many seconds, from 0 on; at 259,201, how many took more than three days.
-    counts: Vec<u64>,
+    /// How many runs took so many seconds; at 259,201, how many took more than three days.
+    counts: BTreeMap<u64, u64>,
     /// How many have ended.
     pub count: u64,
     /// The first of the longest runs that have ended, if there is one.
@@ -32,7 +35,7 @@ impl Evidence {
     /// What is known before any run, without allocating.
     pub(crate) fn new(alloc: Global) -> Evidence {
         Evidence {
-            counts: Vec::new(alloc),
+            counts: BTreeMap::new(alloc),
             count: 0,
             longest: None,
             unended: 0,
@@ -47,13 +50,9 @@ impl Evidence {
             self.longest_open = longer(self.longest_open, run);
             return Ok(());
         }
-        let place = run.seconds.min(259_201) as usize;
-        if self.counts.len() <= place {
-            self.counts.resize(place + 1, 0)?;
-        }
-        if let Some(count) = self.counts.get_mut(place) {
-            *count = count.saturating_add(1);
-        }
+        let seconds = run.seconds.min(259_201);
+        let before = self.counts.get(&seconds).copied().unwrap_or(0);
+        self.counts.insert(seconds, before.saturating_add(1))?;
         self.count = self.count.saturating_add(1);
         self.longest = longer(self.longest, run);
         Ok(())
@@ -63,10 +62,10 @@ impl Evidence {
     /// half took less. 259,201 stands for more than three days, and `None` for no run.
     pub(crate) fn median(&self) -> Option<u64> {
         let mut seen = 0u64;
-        for (seconds, count) in self.counts.iter().enumerate() {
+        for (seconds, count) in &self.counts {
             seen = seen.saturating_add(*count);
-            if seen > 0 && self.count <= seen.saturating_mul(2) {
-                return Some(seconds as u64);
+            if self.count <= seen.saturating_mul(2) {
+                return Some(*seconds);
             }
         }
         None
@@ -75,8 +74,10 @@ impl Evidence {
     /// How many runs took longer than so many minutes, at most 4,320.
     pub(crate) fn longer_than(&self, minutes: u16) -> u64 {
         let mut longer = 0u64;
-        for count in self.counts.iter().skip(60 * usize::from(minutes) + 1) {
-            longer = longer.saturating_add(*count);
+        for (seconds, count) in &self.counts {
+            if *seconds > 60 * u64::from(minutes) {
+                longer = longer.saturating_add(*count);
+            }
         }
         longer
     }
@@ -87,5 +88,29 @@ fn longer(longest: Option<Ran>, run: Ran) -> Option<Ran> {
     match longest {
         Some(other) if other.seconds >= run.seconds => longest,
         _ => Some(run),
+    }
+}
+
+/// A run that has ended, if the clock tells how long it took; which is counted.
+pub(crate) fn ended(began: Moment, at: Moment, tally: &mut Tally) -> Option<Ran> {
+    let Some(seconds) = passed(began, at) else {
+        tally.unclear = tally.unclear.saturating_add(1);
+        return None;
+    };
+    tally.runs = tally.runs.saturating_add(1);
+    Some(Ran {
+        began,
+        seconds,
+        has_ended: true,
+    })
+}
+
+/// A run that has no end: it took all the time up to a later moment, as far as anyone knows, and more
+/// than any job may have where the clock doesn't tell.
+pub(crate) fn without_end(began: Moment, later: Moment) -> Ran {
+    Ran {
+        began,
+        seconds: passed(began, later).unwrap_or(u64::MAX),
+        has_ended: false,
     }
 }

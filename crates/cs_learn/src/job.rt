@@ -1,52 +1,30 @@
-//! The jobs of a crontab, as logs name them, and what is known of their runs.
-use crate::evidence::{Evidence, Ran};
+//! The jobs of both tables, as logs name them, and what is known of their runs.
+use crate::evidence::{Evidence, Ran, ended, without_end};
 use crate::line::LogLine;
 use crate::logged_text::logged;
+use crate::tally::Tally;
+use cs_anacrontab::Job as AnacronJob;
 use cs_civil::Bytes;
 use cs_crontab::Line;
 use cs_place::{Place, place_of, push_shown};
 use cs_retrace::words::is_word;
+use cs_retrace::{JobName, Moment};
 use std::alloc::{AllocError, Global};
 
-/// A job of a crontab, and what is known of its runs.
+/// How logs call the command of a crontab's line.
 #[derive(Drop)]
-pub struct Job {
-    /// The number of its line.
-    pub number: u64,
+struct Called {
     /// Its user, where that is known.
     user: Option<Bytes>,
     /// Its command as Debian's cron logs it, as cronie does, and as this program's log lists it.
     debian: Bytes,
     cronie: Bytes,
     shown: Bytes,
-    /// What is known of its runs.
-    pub evidence: Evidence,
-    /// How many runs of its line were by another table.
-    pub refused: u64,
 }
 
-impl Job {
-    /// The job of a line, whose user its place tells, of which nothing is known.
-    fn new(alloc: Global, places: &[Place], line: &Line) -> Result<Job, AllocError> {
-        let mut shown = Vec::new(alloc);
-        push_shown(&mut shown, line.command())?;
-        let user = match place_of(places, line.number()) {
-            Some(place) => Some(Bytes::from_slice(alloc, place.user.as_slice())?),
-            None => None,
-        };
-        Ok(Job {
-            number: u64::from(line.number()),
-            user,
-            debian: logged(alloc, true, line.command())?,
-            cronie: logged(alloc, false, line.command())?,
-            shown: Bytes::from_vec(shown),
-            evidence: Evidence::new(alloc),
-            refused: 0,
-        })
-    }
-
+impl Called {
     /// Whether cron's log calls it so, where its user isn't known by whatever user.
-    fn is_called(&self, user: &[u8], command: &[u8]) -> bool {
+    fn is(&self, user: &[u8], command: &[u8]) -> bool {
         let may_be = match &self.user {
             Some(own) => is_word(own.as_slice(), user),
             None => true,
@@ -55,31 +33,123 @@ impl Job {
             && (is_word(self.debian.as_slice(), command)
                 || is_word(self.cronie.as_slice(), command))
     }
+}
+
+/// A job of a table, and what is known of its runs.
+#[derive(Drop)]
+pub struct Job {
+    /// What names it.
+    pub name: JobName,
+    /// How logs call it, if it is one of the crontab.
+    called: Option<Called>,
+    /// What is known of its runs.
+    pub evidence: Evidence,
+    /// How many runs of its line were by another table.
+    pub refused: u64,
+    /// Where anacron has started it and no line tells the end: when, and the number of that process.
+    open: Option<(Moment, u64)>,
+}
+
+impl Job {
+    /// A job of which nothing is known.
+    fn new(alloc: Global, name: JobName, called: Option<Called>) -> Job {
+        Job {
+            name,
+            called,
+            evidence: Evidence::new(alloc),
+            refused: 0,
+            open: None,
+        }
+    }
+
+    /// The job of a line, whose user its place tells.
+    fn of_line(alloc: Global, places: &[Place], line: &Line) -> Result<Job, AllocError> {
+        let mut shown = Vec::new(alloc);
+        push_shown(&mut shown, line.command())?;
+        let user = match place_of(places, line.number()) {
+            Some(place) => Some(Bytes::from_slice(alloc, place.user.as_slice())?),
+            None => None,
+        };
+        let called = Called {
+            user,
+            debian: logged(alloc, true, line.command())?,
+            cronie: logged(alloc, false, line.command())?,
+            shown: Bytes::from_vec(shown),
+        };
+        let name = JobName::Line(u64::from(line.number()));
+        Ok(Job::new(alloc, name, Some(called)))
+    }
+
+    /// Whether it is one of the anacrontab.
+    pub(crate) fn is_anacron(&self) -> bool {
+        self.called.is_none()
+    }
 
     /// Whether cron's log can't tell this job from the other, so that both take each run.
     pub(crate) fn is_like(&self, other: &Job) -> bool {
-        match (&self.user, &other.user) {
-            (Some(own), None) => self.is_called(own.as_slice(), other.debian.as_slice()),
-            (_, Some(user)) => self.is_called(user.as_slice(), other.debian.as_slice()),
-            (None, None) => self.is_called(b"".as_slice(), other.debian.as_slice()),
-        }
+        let (Some(own), Some(other)) = (&self.called, &other.called) else {
+            return false;
+        };
+        let user = match (&own.user, &other.user) {
+            (_, Some(user)) => user.as_slice(),
+            (Some(user), None) => user.as_slice(),
+            (None, None) => b"",
+        };
+        own.is(user, other.debian.as_slice())
     }
 
     /// Takes a run of this line, if that is of the job: by the number of its line in this program's log,
     /// and by its command where that lists the table; in cron's by its command and user.
     fn take(&mut self, line: &LogLine, ran: Ran) -> Result<(), AllocError> {
+        let Some(called) = &self.called else {
+            return Ok(());
+        };
         if line.due.is_none() {
-            if self.is_called(line.user.as_slice(), line.command.as_slice()) {
+            if called.is(line.user.as_slice(), line.command.as_slice()) {
                 self.evidence.add(ran)?;
             }
-        } else if self.number == line.number {
-            if !line.is_listed || is_word(self.shown.as_slice(), line.command.as_slice()) {
+        } else if self.name.is_line(line.number) {
+            if !line.is_listed || is_word(called.shown.as_slice(), line.command.as_slice()) {
                 self.evidence.add(ran)?;
             } else {
                 self.refused = self.refused.saturating_add(1);
             }
         }
         Ok(())
+    }
+
+    /// Takes a start by anacron: one before it has no end, since anacron runs a job once at a time.
+    pub(crate) fn begin(&mut self, line: &LogLine, tally: &mut Tally) -> Result<(), AllocError> {
+        self.close(line.at, tally)?;
+        tally.begun = tally.begun.saturating_add(1);
+        self.open = Some((line.at, line.number));
+        Ok(())
+    }
+
+    /// Takes an end by anacron, of the start by the same process.
+    pub(crate) fn end(&mut self, line: &LogLine, tally: &mut Tally) -> Result<(), AllocError> {
+        let began = match self.open {
+            Some((began, starter)) if starter == line.number => began,
+            _ => {
+                tally.no_beginning = tally.no_beginning.saturating_add(1);
+                return Ok(());
+            }
+        };
+        self.open = None;
+        match ended(began, line.at, tally) {
+            Some(ran) => self.evidence.add(ran),
+            None => Ok(()),
+        }
+    }
+
+    /// Takes that no line tells the end of a start by anacron.
+    pub(crate) fn close(&mut self, later: Moment, tally: &mut Tally) -> Result<(), AllocError> {
+        let Some((began, _starter)) = self.open else {
+            return Ok(());
+        };
+        self.open = None;
+        tally.unended = tally.unended.saturating_add(1);
+        self.evidence.add(without_end(began, later))
     }
 }
 
@@ -91,15 +161,29 @@ pub(crate) fn take_run(jobs: &mut Vec<Job>, line: &LogLine, ran: Ran) -> Result<
     Ok(())
 }
 
-/// The jobs of a crontab's lines. The only error is out of memory.
+/// The jobs of a crontab's lines, and then those of an anacrontab. The only error is out of memory.
 pub(crate) fn jobs_of(
     alloc: Global,
     lines: &[Line],
     places: &[Place],
+    others: &[AnacronJob],
 ) -> Result<Vec<Job>, AllocError> {
     let mut jobs = Vec::new(alloc);
     for line in lines {
-        jobs.push(Job::new(alloc, places, line)?)?;
+        jobs.push(Job::of_line(alloc, places, line)?)?;
     }
+    push_others(alloc, &mut jobs, others)?;
     Ok(jobs)
+}
+
+fn push_others(
+    alloc: Global,
+    jobs: &mut Vec<Job>,
+    others: &[AnacronJob],
+) -> Result<(), AllocError> {
+    for other in others {
+        let identifier = Bytes::from_slice(alloc, other.identifier())?;
+        jobs.push(Job::new(alloc, JobName::Identifier(identifier), None))?;
+    }
+    Ok(())
 }

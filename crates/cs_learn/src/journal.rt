@@ -19,19 +19,20 @@ fn text_at<'v>(object: &'v Value, name: &str, other: &str) -> Option<&'v [u8]> {
     None
 }
 
-/// When the line was written, in seconds, by which process, and its message. The time is a number of
-/// microseconds.
-fn entry(object: &Value) -> Option<(u64, u64, &[u8])> {
+/// When the line was written, in seconds, by which program and process, and its message. The time is a
+/// number of microseconds.
+fn entry(object: &Value) -> Option<(u64, &[u8], u64, &[u8])> {
     let time = text_at(object, "__REALTIME_TIMESTAMP", "")?;
     let (seconds, micros) = time.split_at_checked(time.len().checked_sub(6)?)?;
     let name = text_at(object, "SYSLOG_IDENTIFIER", "_COMM")?;
-    let names: &[&[u8]] = &[b"CRON", b"CROND", b"cron", b"crond"];
+    let names: &[&[u8]] = &[b"CRON", b"CROND", b"cron", b"crond", b"anacron"];
     if !is_among(names, name) {
         return None;
     }
     number(micros)?;
     let writer = number(text_at(object, "SYSLOG_PID", "_PID")?)?;
-    Some((number(seconds)?, writer, text_at(object, "MESSAGE", "")?))
+    let message = text_at(object, "MESSAGE", "")?;
+    Some((number(seconds)?, name, writer, message))
 }
 
 /// What a line of `journalctl -o json` says of a run.
@@ -42,7 +43,9 @@ pub(crate) fn journal(alloc: Global, text: &[u8]) -> Result<Option<LogLine>, All
         Err(Misread::Fault(_)) => return Ok(None),
     };
     match entry(&object) {
-        Some((seconds, writer, text)) => message(alloc, Moment::Universal(seconds), writer, text),
+        Some((seconds, program, writer, text)) => {
+            message(alloc, Moment::Universal(seconds), program, writer, text)
+        }
         None => Ok(None),
     }
 }

@@ -1,14 +1,16 @@
 //! The longest times that logs give, as `draft` reads them.
 ghost use Rattle.std.specs.Prelude.{◌≡◌, All, IfOk, IfSome, IsTrue};
 ghost use Rattle.std.specs.List.{list_all};
-ghost use Rattle.cs_learn.specs.Learned.{AreLearned, Gives, IsLearned, IsMaxOf, is_line, seconds_since};
+ghost use Rattle.cs_retrace.specs.Maxes.{has_job, max_of};
+ghost use Rattle.cs_learn.specs.Learned.{AreLearned, Gives, IsLearned, IsMaxOf, seconds_since};
 
 use crate::evidence::{Evidence, Ran};
 use crate::job::Job;
 use crate::log::Log;
 use crate::max::{Factor, max_for};
+use cs_anacrontab::Job as AnacronJob;
 use cs_crontab::Line;
-use cs_retrace::{Given, max_of, read_maxes};
+use cs_retrace::{Given, JobName, has_job, max_of, max_of_identifier, read_maxes};
 use std::alloc::{AllocError, Global};
 
 /// The seconds since a start without an end, 0 where there is none.
@@ -32,22 +34,22 @@ pub(crate) fn max_of_job(evidence: &Evidence, factor: Factor) -> Option<u64>
 }
 
 /// A line for each job with a max; and a comment for each other one of which a run has no end, unless
-/// the logs tell no ends at all.
+/// the logs tell no ends of its table at all.
 fn text_of(alloc: Global, log: &Log, factor: Factor) -> Result<Vec<u8>, AllocError> {
     let mut text = Vec::new(alloc);
     for job in log.jobs() {
-        let number = job.number;
-        let line = match (max_of_job(&job.evidence, factor), job.evidence.longest_open) {
-            (Some(max), _) => format!(in alloc; "line {number} {max}\n")?,
-            (None, Some(run)) if !log.tally.has_no_ends() => {
+        let (front, what) = match (max_of_job(&job.evidence, factor), job.evidence.longest_open) {
+            (Some(max), _) => ("", format!(in alloc; " {max}\n")?),
+            (None, Some(run)) if log.tells_ends(job) => {
                 let minutes = run.seconds / 60 + 1;
-                format!(in alloc;
-                    "# warning: line {number}: a run without an end may have taken {minutes} min\n"
-                )?
+                let what = ": a run without an end may have taken";
+                ("# warning: ", format!(in alloc; "{what} {minutes} min\n")?)
             }
             _ => continue,
         };
-        text.extend_from_slice(line.as_bytes())?;
+        text.extend_from_slice(front.as_bytes())?;
+        text.extend_from_slice(job.name.text(alloc)?.as_slice())?;
+        text.extend_from_slice(what.as_bytes())?;
     }
     Ok(text)
 }
@@ -67,48 +69,59 @@ fn give(jobs: &[Job], factor: Factor, given: &[Given]) -> bool
 fn gives(job: &Job, factor: Factor, given: &[Given]) -> bool
     ensures { IsTrue result → Gives factor given.now job.now }
 {
-    max_of(given, job.number) == max_of_job(&job.evidence, factor)
+    max_given(given, &job.name) == max_of_job(&job.evidence, factor)
 }
 
-fn is_line(lines: &[Line], given: &Given) -> bool
-    ensures { result ≡ is_line lines.now given.now }
+fn max_given(given: &[Given], name: &JobName) -> Option<u64>
+    ensures { result ≡ max_of given.now name.now }
 {
-    lines
-        .iter()
-        .any(|line| u64::from(line.number()) == given.number)
+    match name {
+        JobName::Line(number) => max_of(given, *number),
+        JobName::Identifier(identifier) => max_of_identifier(given, identifier.as_slice()),
+    }
 }
 
-/// Whether each names a line of the crontab.
-fn are_lines(lines: &[Line], given: &[Given]) -> bool
-    ensures { result ≡ list_all (is_line lines.now) given.now }
+/// Whether each is of a job of the tables.
+fn are_of_jobs(lines: &[Line], others: &[AnacronJob], given: &[Given]) -> bool
+    ensures { result ≡ list_all (λ g. has_job lines.now others.now g.name) given.now }
 {
-    given.iter().all(|one| is_line(lines, one))
+    given.iter().all(|one| has_job(lines, others, &one.name))
 }
 
-/// Whether each job is given its max, and no other line of the crontab one.
-fn are_learned(lines: &[Line], jobs: &[Job], factor: Factor, given: &[Given]) -> bool
-    ensures { IsTrue result → AreLearned lines.now jobs.now factor given.now }
+/// Whether each job is given its max, and nothing else of the tables one.
+fn are_learned(
+    lines: &[Line],
+    others: &[AnacronJob],
+    jobs: &[Job],
+    factor: Factor,
+    given: &[Given],
+) -> bool
+    ensures { IsTrue result → AreLearned lines.now others.now jobs.now factor given.now }
 {
-    give(jobs, factor, given) && are_lines(lines, given)
+    give(jobs, factor, given) && are_of_jobs(lines, others, given)
 }
 
-/// Returns lines such as `line 3 25`, which give each job of the crontab its max. What was written was
-/// read back and compared.
+/// Returns lines such as `line 3 25` and `job cron.daily 25`, which give each job of the tables its max.
+/// What was written was read back and compared.
 ///
 /// `None` is returned where it doesn't pass, which isn't meant to come. The only error is out of
 /// memory.
 pub(crate) fn learn(
     alloc: Global,
     lines: &[Line],
+    others: &[AnacronJob],
     log: &Log,
     factor: Factor,
 ) -> Result<Option<Vec<u8>>, AllocError>
     ensures { IfOk result (λ found. IfSome found
-        (λ text. IsLearned lines.now log.now.jobs.items factor text.items)) }
+        (λ text. IsLearned lines.now others.now log.now.jobs.items factor text.items)) }
 {
     let text = text_of(alloc, log, factor)?;
-    match read_maxes(alloc, text.as_slice())? {
-        Ok(given) if are_learned(lines, log.jobs(), factor, given.as_slice()) => Ok(Some(text)),
-        _ => Ok(None),
+    let Ok(given) = read_maxes(alloc, text.as_slice())? else {
+        return Ok(None);
+    };
+    if are_learned(lines, others, log.jobs(), factor, given.as_slice()) {
+        return Ok(Some(text));
     }
+    Ok(None)
 }

@@ -1,4 +1,4 @@
-//! How long the runs of jobs took, from the logs of cron and of this program.
+//! How long the runs of jobs took, from the logs of cron, of anacron and of this program.
 #![tactic(auto)]
 
 mod answer;
@@ -14,6 +14,7 @@ mod logged_text;
 mod max;
 mod reading;
 mod summary;
+mod tally;
 
 pub use answer::{Learnable, answer_learn, find_learnable};
 pub use evidence::{Evidence, Ran};

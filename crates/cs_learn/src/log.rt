@@ -1,10 +1,10 @@
 //! Logs, read byte by byte.
 ghost use Rattle.std.specs.Prelude.{◌≡◌};
 
-use crate::duration::passed;
-use crate::evidence::Ran;
+use crate::evidence::{ended, without_end};
 use crate::job::{Job, take_run};
 use crate::line::{LogLine, Sign, read_line};
+use crate::tally::Tally;
 use cs_civil::Bytes;
 use cs_crontab::MAX_COMMANDS;
 use cs_retrace::Moment;
@@ -20,31 +20,6 @@ const MAX_LINE: usize = 8_192;
 /// Fewer runs than this are open: where they are as many, none of them has an end.
 const MAX_OPEN: usize = 4_096;
 
-/// How many lines of a log told what. No count goes past `u64::MAX`.
-#[derive(Clone, Copy)]
-pub struct Tally {
-    /// That a run began.
-    pub begun: u64,
-    /// That a run ended whose beginning another line told.
-    pub runs: u64,
-    /// That a run began whose end no line told.
-    pub unended: u64,
-    /// That a run ended whose beginning no line told.
-    pub no_beginning: u64,
-    /// That a run ended, by a clock that went back or doesn't tell how long it took.
-    pub unclear: u64,
-    /// They are too long to be read.
-    pub too_long: u64,
-}
-
-impl Tally {
-    /// Whether lines tell of beginnings and none of an end, as in the log of Debian's cron at its default
-    /// log level (cron(8)).
-    pub(crate) fn has_no_ends(&self) -> bool {
-        self.begun > 0 && self.runs == 0 && self.no_beginning == 0 && self.unclear == 0
-    }
-}
-
 /// What logs tell of these jobs: read byte by byte, in memory that doesn't grow with their length.
 #[derive(Drop)]
 pub struct Log {
@@ -54,8 +29,10 @@ pub struct Log {
     last: Moment,
     /// The commands that this program's log lists of its daemon's table, by the numbers of their lines.
     commands: IndexMap<u64, Bytes>,
-    /// How many lines told what.
+    /// How many lines of cron and of this program told what.
     pub tally: Tally,
+    /// And how many of anacron, on its jobs.
+    pub anacron: Tally,
     /// The paths of the logs that are compressed.
     pub compressed: Vec<Bytes>,
     /// Whether the log that is read is compressed.
@@ -77,16 +54,6 @@ fn is_compressed(line: &[u8]) -> bool {
         || line.starts_with(b"\x28\xb5\x2f\xfd")
 }
 
-/// A run that has no end: it took all the time up to a later moment, as far as anyone knows, and more
-/// than any job may have where the clock doesn't tell.
-fn without_end(line: &LogLine, later: Moment) -> Ran {
-    Ran {
-        began: line.at,
-        seconds: passed(line.at, later).unwrap_or(u64::MAX),
-        has_ended: false,
-    }
-}
-
 impl Log {
     /// What is known of jobs before any log, without allocating.
     pub(crate) fn new(alloc: Global, jobs: Vec<Job>) -> Log {
@@ -94,14 +61,8 @@ impl Log {
             open: IndexMap::new(alloc),
             last: Moment::Universal(0),
             commands: IndexMap::new(alloc),
-            tally: Tally {
-                begun: 0,
-                runs: 0,
-                unended: 0,
-                no_beginning: 0,
-                unclear: 0,
-                too_long: 0,
-            },
+            tally: Tally::new(),
+            anacron: Tally::new(),
             compressed: Vec::new(alloc),
             is_compressed: false,
             line: Vec::new(alloc),
@@ -116,13 +77,18 @@ impl Log {
         self.jobs.as_slice()
     }
 
+    /// Whether lines of the job's table tell an end, or no line of it tells a start.
+    pub(crate) fn tells_ends(&self, job: &Job) -> bool {
+        job.is_anacron() || !self.tally.has_no_ends()
+    }
+
     /// Takes a beginning. It takes the place of a run of its name, since numbers are used again.
     fn begin(&mut self, line: LogLine) -> Result<(), AllocError> {
         self.last = line.at;
         self.tally.begun = self.tally.begun.saturating_add(1);
         if let Some(run) = self.open.insert(name(&line), line)? {
             self.tally.unended = self.tally.unended.saturating_add(1);
-            take_run(&mut self.jobs, &run, without_end(&run, self.last))?;
+            take_run(&mut self.jobs, &run, without_end(run.at, self.last))?;
         }
         Ok(())
     }
@@ -158,17 +124,24 @@ impl Log {
             self.tally.no_beginning = self.tally.no_beginning.saturating_add(1);
             return Ok(());
         };
-        let Some(seconds) = passed(run.at, line.at) else {
-            self.tally.unclear = self.tally.unclear.saturating_add(1);
+        match ended(run.at, line.at, &mut self.tally) {
+            Some(ran) => take_run(&mut self.jobs, line, ran),
+            None => Ok(()),
+        }
+    }
+
+    /// Takes a line of anacron on one of the jobs; another one is passed over.
+    fn take_anacron(&mut self, line: &LogLine) -> Result<(), AllocError> {
+        let identifier = line.command.as_slice();
+        let mut jobs = self.jobs.iter();
+        let Some(place) = jobs.position(|job| job.name.is_identifier(identifier)) else {
             return Ok(());
         };
-        self.tally.runs = self.tally.runs.saturating_add(1);
-        let ran = Ran {
-            began: run.at,
-            seconds,
-            has_ended: true,
-        };
-        take_run(&mut self.jobs, line, ran)
+        self.last = line.at;
+        match line.sign {
+            Sign::Begin => self.jobs[place].begin(line, &mut self.anacron),
+            _ => self.jobs[place].end(line, &mut self.anacron),
+        }
     }
 
     /// Takes a line on a run, with the command that is listed for it, if a table is listed.
@@ -180,6 +153,9 @@ impl Log {
                 Some(command) => Bytes::from_slice(alloc, command.as_slice())?,
                 None => Bytes::new(alloc),
             };
+        }
+        if line.is_anacron {
+            return self.take_anacron(&line);
         }
         match line.sign {
             Sign::Begin => self.begin(line),
@@ -222,16 +198,24 @@ impl Log {
         }
         self.line.clear();
         if self.open.len() >= MAX_OPEN {
-            self.close()?;
+            self.close_open()?;
         }
         Ok(())
     }
 
     /// Takes the end of all logs, which tell no end of what is open. The only error is out of memory.
     pub(crate) fn close(&mut self) -> Result<(), AllocError> {
+        for i in 0..self.jobs.len() {
+            self.jobs[i].close(self.last, &mut self.anacron)?;
+        }
+        self.close_open()
+    }
+
+    /// Takes that no line tells the ends of runs of the crontab that are open.
+    fn close_open(&mut self) -> Result<(), AllocError> {
         for place in 0..self.open.len() {
             if let Some((_name, line)) = self.open.get_index(place) {
-                take_run(&mut self.jobs, line, without_end(line, self.last))?;
+                take_run(&mut self.jobs, line, without_end(line.at, self.last))?;
             }
         }
         self.tally.unended = self.tally.unended.saturating_add(self.open.len() as u64);

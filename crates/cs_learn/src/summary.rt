@@ -8,7 +8,7 @@ use crate::max::Factor;
 use cs_civil::{Bytes, push_number};
 use cs_crontab::{Line, When};
 use cs_place::{Place, place_of, push_place_text, push_shown};
-use cs_retrace::LONGEST_MAX;
+use cs_retrace::{JobName, LONGEST_MAX};
 use cs_schedule::least_gap;
 use std::alloc::{AllocError, Global};
 
@@ -32,15 +32,27 @@ const NO_STARTS: &[u8] =
     b"note: no line of the logs tells that a job starts. learn reads syslog files, \
     journalctl -o short, short-iso or json, and logs of run\n";
 
-/// So many lines without runs are listed.
+/// So many lines and jobs without runs are listed.
 const MOST_LISTED: u64 = 20;
 
 type Done = Result<(), AllocError>;
 
 /// `1 run`, or `2 runs`.
-fn runs(alloc: Global, count: u64) -> Result<String, AllocError> {
+fn counted(alloc: Global, count: u64, what: &str) -> Result<String, AllocError> {
     let ending = if count == 1 { "" } else { "s" };
-    format!(in alloc; "{count} run{ending}")
+    format!(in alloc; "{count} {what}{ending}")
+}
+
+/// Adds `line 3`, or `job cron.daily`, as a terminal can show it.
+fn push_name(alloc: Global, text: &mut Vec<u8>, name: &JobName) -> Done {
+    push_shown(text, name.text(alloc)?.as_slice())
+}
+
+/// Begins a note: `note: line 3: `.
+fn push_note(alloc: Global, text: &mut Vec<u8>, name: &JobName) -> Done {
+    text.extend_from_slice(b"note: ")?;
+    push_name(alloc, text, name)?;
+    text.extend_from_slice(b": ")
 }
 
 /// Adds a time in hours, minutes and seconds, without those that are 0: `20 s`, `1 h 3 min 16 s`.
@@ -65,7 +77,7 @@ fn push_time(alloc: Global, text: &mut Vec<u8>, seconds: u64) -> Done {
 
 /// `2 runs (fewer than 10), median 20 s, longest 1 min 30 s from Nov  7 09:17:01`
 fn push_runs(alloc: Global, text: &mut Vec<u8>, evidence: &Evidence, longest: Ran) -> Done {
-    text.extend_from_slice(runs(alloc, evidence.count)?.as_bytes())?;
+    text.extend_from_slice(counted(alloc, evidence.count, "run")?.as_bytes())?;
     if evidence.count < FEW_RUNS {
         text.extend_from_slice(format!(in alloc; " (fewer than {FEW_RUNS})")?.as_bytes())?;
     }
@@ -89,23 +101,21 @@ fn push_runs(alloc: Global, text: &mut Vec<u8>, evidence: &Evidence, longest: Ra
 fn push_row(
     alloc: Global,
     text: &mut Vec<u8>,
-    places: &[Place],
-    line: &Line,
-    evidence: &Evidence,
+    place: Option<&Place>,
+    job: &Job,
     factor: Factor,
 ) -> Done {
-    let Some(longest) = evidence.longest else {
+    let Some(longest) = job.evidence.longest else {
         return Ok(());
     };
-    text.extend_from_slice(b"line ")?;
-    push_number(alloc, text, u128::from(line.number()))?;
-    if let Some(place) = place_of(places, line.number()) {
+    push_name(alloc, text, &job.name)?;
+    if let Some(place) = place {
         text.extend_from_slice(b", ")?;
         push_place_text(text, place)?;
     }
     text.extend_from_slice(b": ")?;
-    push_runs(alloc, text, evidence, longest)?;
-    if let Some(max) = max_of_job(evidence, factor) {
+    push_runs(alloc, text, &job.evidence, longest)?;
+    if let Some(max) = max_of_job(&job.evidence, factor) {
         text.extend_from_slice(b", max ")?;
         push_number(alloc, text, u128::from(max))?;
         text.extend_from_slice(b" min")?;
@@ -113,26 +123,47 @@ fn push_row(
     text.extend_from_slice(b"\n")
 }
 
-/// `no ended runs of 3 lines: 1, 4, 7`: at most 20 of them are listed, and behind these `and 3 more`.
+/// `3 lines and 1 job`, or either alone.
+fn lines_and_jobs(alloc: Global, lines: u64, others: u64) -> Result<String, AllocError> {
+    let of_lines = counted(alloc, lines, "line")?;
+    let of_jobs = counted(alloc, others, "job")?;
+    match (lines, others) {
+        (_, 0) => Ok(of_lines),
+        (0, _) => Ok(of_jobs),
+        _ => format!(in alloc; "{of_lines} and {of_jobs}"),
+    }
+}
+
+/// Adds the number of the line, or the identifier.
+fn push_listed(alloc: Global, text: &mut Vec<u8>, name: &JobName) -> Done {
+    match name {
+        JobName::Line(number) => push_number(alloc, text, u128::from(*number)),
+        JobName::Identifier(identifier) => push_shown(text, identifier.as_slice()),
+    }
+}
+
+/// `no ended runs of 3 lines and 1 job: 1, 4, 7, cron.daily`: at most 20 of them are listed, and behind
+/// these `and 3 more`.
 fn push_without_runs(alloc: Global, text: &mut Vec<u8>, jobs: &[Job]) -> Done {
     let mut listed = Vec::new(alloc);
-    let mut count = 0u64;
+    let (mut count, mut others) = (0u64, 0u64);
     for job in jobs {
         if job.evidence.longest.is_none() {
             count = count.saturating_add(1);
+            others = others.saturating_add(if job.is_anacron() { 1 } else { 0 });
             if count <= MOST_LISTED {
                 listed.extend_from_slice(if count == 1 { b" " } else { b", ".as_slice() })?;
-                push_number(alloc, &mut listed, u128::from(job.number))?;
+                push_listed(alloc, &mut listed, &job.name)?;
             }
         }
     }
     if count == 0 {
         return Ok(());
     }
-    let ending = if count == 1 { "" } else { "s" };
-    text.extend_from_slice(format!(in alloc;
-        "no ended runs of {count} line{ending}:"
-    )?.as_bytes())?;
+    text.extend_from_slice(b"no ended runs of ")?;
+    let counts = lines_and_jobs(alloc, count.saturating_sub(others), others)?;
+    text.extend_from_slice(counts.as_bytes())?;
+    text.extend_from_slice(b":")?;
     text.extend_from_slice(listed.as_slice())?;
     let more = count.saturating_sub(MOST_LISTED);
     if more > 0 {
@@ -153,7 +184,7 @@ fn push_overrun(alloc: Global, text: &mut Vec<u8>, line: &Line, evidence: &Evide
     if count == 0 {
         return Ok(());
     }
-    let runs = runs(alloc, count)?;
+    let runs = counted(alloc, count, "run")?;
     let note = format!(in alloc;
         "note: line {number}: {runs} took longer than the {gap} min that may lie between its due \
          minutes\n"
@@ -162,33 +193,32 @@ fn push_overrun(alloc: Global, text: &mut Vec<u8>, line: &Line, evidence: &Evide
 }
 
 /// Tells of starts without an end.
-fn push_unended(alloc: Global, text: &mut Vec<u8>, number: u32, evidence: &Evidence) -> Done {
-    let Some(start) = evidence.longest_open else {
+fn push_unended(alloc: Global, text: &mut Vec<u8>, job: &Job) -> Done {
+    let Some(start) = job.evidence.longest_open else {
         return Ok(());
     };
-    let count = evidence.unended;
+    let count = job.evidence.unended;
     let starts = match count {
         1 => "start without an end, that of",
         _ => "starts without an end, such as that of",
     };
-    let front = format!(in alloc; "note: line {number}: {count} {starts} ")?;
-    text.extend_from_slice(front.as_bytes())?;
+    push_note(alloc, text, &job.name)?;
+    text.extend_from_slice(format!(in alloc; "{count} {starts} ")?.as_bytes())?;
     push_moment(text, start.began)?;
     text.extend_from_slice(b"\n")
 }
 
 /// Tells that a run is too long for a max.
-fn push_too_long(alloc: Global, text: &mut Vec<u8>, number: u32, evidence: &Evidence) -> Done {
-    let what = match evidence.longest_open {
+fn push_too_long(alloc: Global, text: &mut Vec<u8>, job: &Job) -> Done {
+    let what = match job.evidence.longest_open {
         Some(start) if start.seconds / 60 >= LONGEST_MAX => {
             "the time since a start without an end may be"
         }
         _ => "its longest run makes",
     };
-    let note = format!(in alloc;
-        "note: line {number}: {what} more than 4320 min, so its max isn't learned\n"
-    )?;
-    text.extend_from_slice(note.as_bytes())
+    push_note(alloc, text, &job.name)?;
+    text.extend_from_slice(what.as_bytes())?;
+    text.extend_from_slice(b" more than 4320 min, so its max isn't learned\n")
 }
 
 /// Tells that runs of the line were by another table.
@@ -196,7 +226,7 @@ fn push_refused(alloc: Global, text: &mut Vec<u8>, number: u32, refused: u64) ->
     if refused == 0 {
         return Ok(());
     }
-    let runs = runs(alloc, refused)?;
+    let runs = counted(alloc, refused, "run")?;
     let note = format!(in alloc;
         "note: line {number}: {runs} left out, since the log lists another command for it, or none\n"
     )?;
@@ -248,22 +278,26 @@ fn push_compressed(text: &mut Vec<u8>, paths: &[Bytes]) -> Done {
 
 /// Tells what the lines of the logs don't tell.
 fn push_tally(alloc: Global, text: &mut Vec<u8>, log: &Log) -> Done {
-    let tally = log.tally;
+    let (tally, anacron) = (log.tally, log.anacron);
     push_compressed(text, log.compressed.as_slice())?;
+    let mut unended = anacron.unended;
     if tally.has_no_ends() {
         text.extend_from_slice(NO_ENDS)?;
     } else {
-        if tally.begun == 0 && log.compressed.is_empty() {
+        if tally.begun == 0 && anacron.begun == 0 && log.compressed.is_empty() {
             text.extend_from_slice(NO_STARTS)?;
         }
-        push_left_out(alloc, text, UNENDED, tally.unended)?;
+        unended = unended.saturating_add(tally.unended);
     }
-    push_left_out(alloc, text, LOST, tally.no_beginning)?;
-    push_left_out(alloc, text, UNCLEAR, tally.unclear)?;
+    push_left_out(alloc, text, UNENDED, unended)?;
+    let lost = tally.no_beginning.saturating_add(anacron.no_beginning);
+    push_left_out(alloc, text, LOST, lost)?;
+    let unclear = tally.unclear.saturating_add(anacron.unclear);
+    push_left_out(alloc, text, UNCLEAR, unclear)?;
     push_left_out(alloc, text, TOO_LONG, tally.too_long)
 }
 
-/// Adds the notes on lines.
+/// Adds the notes on jobs, which begin with those of the crontab's lines.
 fn push_notes(
     alloc: Global,
     text: &mut Vec<u8>,
@@ -272,25 +306,24 @@ fn push_notes(
     factor: Factor,
 ) -> Done {
     let jobs = log.jobs();
-    for (place, line) in lines.iter().enumerate() {
-        if let Some(known) = jobs.get(place) {
-            let evidence = &known.evidence;
-            if !log.tally.has_no_ends() {
-                push_unended(alloc, text, line.number(), evidence)?;
-            }
-            if evidence.count > 0 && max_of_job(evidence, factor).is_none() {
-                push_too_long(alloc, text, line.number(), evidence)?;
-            }
-            push_overrun(alloc, text, line, evidence)?;
-            push_refused(alloc, text, line.number(), known.refused)?;
+    for (place, job) in jobs.iter().enumerate() {
+        if log.tells_ends(job) {
+            push_unended(alloc, text, job)?;
+        }
+        if job.evidence.count > 0 && max_of_job(&job.evidence, factor).is_none() {
+            push_too_long(alloc, text, job)?;
+        }
+        if let Some(line) = lines.get(place) {
+            push_overrun(alloc, text, line, &job.evidence)?;
+            push_refused(alloc, text, line.number(), job.refused)?;
             push_alike(alloc, text, lines, jobs, place)?;
         }
     }
     Ok(())
 }
 
-/// What is told of the lines of a crontab, whose logs were read: a line each, and then the notes. The
-/// only error is out of memory.
+/// What is told of the jobs of tables, whose logs were read: a line each, and then the notes. The only
+/// error is out of memory.
 pub(crate) fn summary_of(
     alloc: Global,
     lines: &[Line],
@@ -299,8 +332,12 @@ pub(crate) fn summary_of(
     factor: Factor,
 ) -> Result<Bytes, AllocError> {
     let mut text = Vec::new(alloc);
-    for (line, known) in lines.iter().zip(log.jobs().iter()) {
-        push_row(alloc, &mut text, places, line, &known.evidence, factor)?;
+    for (i, job) in log.jobs().iter().enumerate() {
+        let place = match lines.get(i) {
+            Some(line) => place_of(places, line.number()),
+            None => None,
+        };
+        push_row(alloc, &mut text, place, job, factor)?;
     }
     push_without_runs(alloc, &mut text, log.jobs())?;
     push_notes(alloc, &mut text, lines, log, factor)?;

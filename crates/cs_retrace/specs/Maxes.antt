@@ -1,46 +1,72 @@
 -- The longest times of jobs, as `learn` prints them and `draft` reads them.
-use Rattle.std.specs.Prelude.{ℕ, ◌+◌, ◌-◌, ◌^◌, min, Bool, true, ◌&&◌, ◌==◌, nat_le, if◌then◌else◌, List, [], ◌∷◌, ◌++◌, codes, Option, Some, None, option_map, Result, Ok, Err}
+use Rattle.std.specs.Prelude.{ℕ, ◌+◌, ◌-◌, ◌^◌, min, Bool, true, false, ◌&&◌, ◌==◌, nat_le, bytes_eq, if◌then◌else◌, List, [], ◌∷◌, ◌++◌, codes, Option, Some, None, option_map, Result, Ok, Err}
 use Rattle.std.specs.List.{find, list_any}
 use Rattle.std.specs.Result.{result_flatten, result_map_both, result_ok}
 use Rattle.cs_table.specs.SettingReading.{◌>>=◌, quoted_at}
 use Rattle.cs_table.specs.Text.{lines_of}
-use Rattle.cs_retrace.specs.Words.{behind, number_of}
+use Rattle.cs_crontab.specs.Crontab.{CommandLine}
+use Rattle.cs_anacrontab.specs.Anacrontab.{JobLine}
+use Rattle.cs_retrace.specs.Words.{number_of}
 use Rattle.cs_retrace.specs.declared.maxes.Given.{Given}
+use Rattle.cs_retrace.specs.declared.maxes.JobName.{JobName}
+use Rattle.cs_retrace.specs.declared.maxes.JobName.TheVariants.{Identifier, Line as OfLine}
 use Rattle.cs_retrace.specs.declared.maxes.MaxFault.{MaxFault}
 use Rattle.cs_retrace.specs.declared.maxes.MaxFault.TheVariants.{Shape, Range, Twice}
 use Rattle.cs_retrace.specs.declared.maxes.TheConstants.{LONGEST_MAX}
 
--- `line 3 25`: a line of the crontab, and the longest time of its job in minutes
-unfoldable pub max_in : List ℕ → Option (ℕ × ℕ)
-max_in text = do
-  rest ← behind (codes "line ") text
-  parts ← quoted_at 32 rest
-  number ← number_of parts.0
+-- a number and the words before it, each behind a blank
+unfoldable pub words_in : List ℕ → Option (List ℕ × List ℕ × ℕ)
+words_in text = do
+  first ← quoted_at 32 text
+  parts ← quoted_at 32 first.1
   max ← number_of parts.1
-  Some (number, max)
+  Some (first.0, parts.0, max)
+
+-- `line 3`: the job on that line of the crontab; `job cron.daily`: that of the anacrontab
+abbrev pub name_in : List ℕ → List ℕ → Option JobName
+name_in kind name = if bytes_eq kind (codes "job") then Some (Identifier name)
+    else if bytes_eq kind (codes "line") then option_map (λ number. OfLine number) (number_of name)
+    else None
+
+-- `line 3 25`, `job cron.daily 25`: a job, and its longest time in minutes
+unfoldable pub max_in : List ℕ → Option (JobName × ℕ)
+max_in text = do
+  words ← words_in text
+  option_map (λ name. (name, words.2)) (name_in words.0 words.1)
+
+-- two names of one job
+abbrev pub is_same : JobName → JobName → Bool
+is_same (OfLine m) (OfLine n) = m == n
+is_same (Identifier a) (Identifier b) = bytes_eq a b
+is_same a b = false
+
+-- the tables have the job
+abbrev pub has_job : List CommandLine → List JobLine → JobName → Bool
+has_job lines jobs (OfLine number) = list_any (λ line. line.number == number) lines
+has_job lines jobs (Identifier id) = list_any (λ job. bytes_eq job.identifier id) jobs
 
 -- An empty line gives none, and neither does one that begins with `#`.
 abbrev pub is_quiet : List ℕ → Bool
 is_quiet [] = true
 is_quiet (b ∷ bs) = b == 35
 
--- a longest time is given for this line of the crontab
-abbrev pub is_given : List Given → ℕ → Bool
-is_given given number = list_any (λ g. g.number == number) given
+-- a longest time is given for this job
+abbrev pub is_given : List Given → JobName → Bool
+is_given given name = list_any (λ g. is_same g.name name) given
 
 -- and which one
-abbrev pub max_of : List Given → ℕ → Option ℕ
-max_of given number = option_map (λ g. g.max) (find (λ g. g.number == number) given)
+abbrev pub max_of : List Given → JobName → Option ℕ
+max_of given name = option_map (λ g. g.max) (find (λ g. is_same g.name name) given)
 
 -- What a line at that place gives behind others: a longest time from 1 to 4,320 minutes, the first
--- for its line of the crontab; or what is wrong with it.
-abbrev pub one_of : ℕ → List Given → Option (ℕ × ℕ) → Result Given MaxFault
+-- for its job; or what is wrong with it.
+abbrev pub one_of : ℕ → List Given → Option (JobName × ℕ) → Result Given MaxFault
 one_of place given None = Err Shape
-one_of place given (Some (number, max)) =
+one_of place given (Some (name, max)) =
     if nat_le 1 max && nat_le max LONGEST_MAX
-    then if is_given given number then Err (Twice number)
-    else Ok (record { place = place; number = number; max = max })
-    else Err (Range number)
+    then if is_given given name then Err (Twice name)
+    else Ok (record { place = place; name = name; max = max })
+    else Err (Range name)
 
 -- lines with their places, from that one on
 unfoldable pub numbered : ℕ → List (List ℕ) → List (ℕ × List ℕ)

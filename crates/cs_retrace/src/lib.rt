@@ -11,6 +11,8 @@ mod trace;
 pub mod words;
 mod writing;
 
-pub use maxes::{Given, LONGEST_MAX, MaxFault, max_of, read_maxes};
+pub use maxes::{
+    Given, JobName, LONGEST_MAX, MaxFault, has_job, max_of, max_of_identifier, read_maxes,
+};
 pub use moment::Moment;
 pub use retracing::{MOST_MINUTES, retrace};

@@ -1,44 +1,156 @@
 //! The longest times of jobs, as `learn` prints them and `draft` reads them: a line each, as
-//! `line 3 25`, for 25 minutes of the job on line 3 of the crontab.
-ghost use Rattle.std.specs.Prelude.{◌≡◌, Err, IfErr, IfOk, None, Some};
-ghost use Rattle.cs_retrace.specs.Maxes.{given_in, is_given, is_quiet, max_in, max_of, one_of, read_in};
+//! `line 3 25`, for 25 minutes of the job on line 3 of the crontab, or `job cron.daily 25`, for those
+//! of that job of the anacrontab.
+ghost use Rattle.std.specs.Prelude.{◌≡◌, ◌==◌, Err, IfErr, IfOk, None, Some, bytes_eq, option_map};
+ghost use Rattle.std.specs.List.{list_any};
+ghost use Rattle.cs_retrace.specs.Maxes.{given_in, has_job, is_given, is_quiet, is_same, max_in, max_of, name_in};
+ghost use Rattle.cs_retrace.specs.Maxes.{one_of, read_in, words_in};
+ghost use Rattle.cs_retrace.specs.declared.maxes.JobName.TheVariants.{Identifier, Line as OfLine};
 
-use crate::words::{behind, number, split};
+use crate::words::{is_word, number, split};
+use cs_anacrontab::Job;
+use cs_civil::Bytes;
+use cs_crontab::Line;
 use cs_table::text::first_line;
 use std::alloc::{AllocError, Global};
 
 /// The longest max of a declaration, in minutes.
 pub const LONGEST_MAX: u64 = 4_320;
 
+/// Which job a longest time is of.
+#[derive(Drop)]
+pub enum JobName {
+    /// The one on this line of the crontab.
+    Line(u64),
+    /// The one of this identifier in the anacrontab.
+    Identifier(Bytes),
+}
+
+impl JobName {
+    /// Whether it is the job on this line of the crontab.
+    pub fn is_line(&self, number: u64) -> bool
+        ensures { result ≡ is_same self.now (OfLine number) }
+    {
+        match self {
+            JobName::Line(own) => *own == number,
+            JobName::Identifier(_) => false,
+        }
+    }
+
+    /// Whether it is the job of this identifier.
+    pub fn is_identifier(&self, identifier: &[u8]) -> bool
+        ensures { result ≡ is_same self.now (Identifier identifier.now) }
+    {
+        match self {
+            JobName::Line(_) => false,
+            JobName::Identifier(own) => own.as_slice() == identifier,
+        }
+    }
+
+    fn is_same(&self, other: &JobName) -> bool
+        ensures { result ≡ is_same self.now other.now }
+    {
+        match other {
+            JobName::Line(number) => self.is_line(*number),
+            JobName::Identifier(identifier) => self.is_identifier(identifier.as_slice()),
+        }
+    }
+
+    /// Returns `line 3` or `job cron.daily`. The only error is out of memory.
+    pub fn text(&self, alloc: Global) -> Result<Vec<u8>, AllocError> {
+        match self {
+            JobName::Line(number) => Ok(format!(in alloc; "line {number}")?.into_bytes()),
+            JobName::Identifier(identifier) => {
+                let mut text = Vec::from_slice(alloc, b"job ".as_slice())?;
+                text.extend_from_slice(identifier.as_slice())?;
+                Ok(text)
+            }
+        }
+    }
+}
+
+fn has_line(lines: &[Line], number: u64) -> bool
+    ensures { result ≡ list_any (λ line. line.number == number) lines.now }
+{
+    lines.iter().any(|line| u64::from(line.number()) == number)
+}
+
+fn has_identifier(jobs: &[Job], identifier: &[u8]) -> bool
+    ensures { result ≡ list_any (λ job. bytes_eq job.identifier identifier.now) jobs.now }
+{
+    jobs.iter().any(|job| job.identifier() == identifier)
+}
+
+/// Checks whether the tables have the job.
+pub fn has_job(lines: &[Line], jobs: &[Job], name: &JobName) -> bool
+    ensures { result ≡ has_job lines.now jobs.now name.now }
+{
+    match name {
+        JobName::Line(number) => has_line(lines, *number),
+        JobName::Identifier(identifier) => has_identifier(jobs, identifier.as_slice()),
+    }
+}
+
 /// The longest time that a line of such a text gives a job.
-#[derive(Clone, Copy)]
+#[derive(Drop)]
 pub struct Given {
     /// The line of the text, counted from 1.
     pub place: u64,
-    /// The line of the crontab.
-    pub number: u64,
+    /// The job.
+    pub name: JobName,
     /// The longest time, in minutes.
     pub max: u64,
 }
 
 /// What is wrong with a line of such a text.
-#[derive(Clone, Copy)]
+#[derive(Drop)]
 pub enum MaxFault {
     /// It isn't of the form.
     Shape,
-    /// The longest time of this line of the crontab isn't from 1 to [`LONGEST_MAX`].
-    Range(u64),
-    /// A line before gives one to this line of the crontab.
-    Twice(u64),
+    /// The longest time of this job isn't from 1 to [`LONGEST_MAX`].
+    Range(JobName),
+    /// A line before gives one to this job.
+    Twice(JobName),
 }
 
-#[tactic(auto, unfolding(crate::specs::Maxes::max_in))]
-fn max_in(text: &[u8]) -> Option<(u64, u64)>
-    ensures { result ≡ max_in text.now }
+/// What names a job, `line 3` or `job cron.daily`, and how many minutes follow.
+#[tactic(auto, unfolding(crate::specs::Maxes::words_in))]
+fn words_in(text: &[u8]) -> Option<(&[u8], &[u8], u64)>
+    ensures { option_map (λ p. (p.0.now, p.1.now, p.2)) result ≡ words_in text.now }
 {
-    let (line, max) = split(b' ', behind(b"line ", text)?)?;
-    let line = number(line)?;
-    Some((line, number(max)?))
+    let (kind, rest) = split(b' ', text)?;
+    let (name, max) = split(b' ', rest)?;
+    Some((kind, name, number(max)?))
+}
+
+/// The job of that name.
+fn name_in(alloc: Global, kind: &[u8], name: &[u8]) -> Result<Option<JobName>, AllocError>
+    ensures { IfOk result (λ found. found ≡ name_in kind.now name.now) }
+{
+    if is_word(kind, b"job") {
+        return Ok(Some(JobName::Identifier(Bytes::from_slice(alloc, name)?)));
+    }
+    if !is_word(kind, b"line") {
+        return Ok(None);
+    }
+    match number(name) {
+        Some(number) => Ok(Some(JobName::Line(number))),
+        None => Ok(None),
+    }
+}
+
+/// What a line gives, if it is of the form.
+#[tactic(auto, unfolding(crate::specs::Maxes::max_in))]
+fn max_in(alloc: Global, text: &[u8]) -> Result<Option<(JobName, u64)>, AllocError>
+    ensures { IfOk result (λ found. found ≡ max_in text.now) }
+{
+    let Some((kind, name, max)) = words_in(text) else {
+        return Ok(None);
+    };
+    match name_in(alloc, kind, name)? {
+        Some(name) => Ok(Some((name, max))),
+        None => Ok(None),
+    }
 }
 
 fn is_quiet(text: &[u8]) -> bool
@@ -50,36 +162,54 @@ fn is_quiet(text: &[u8]) -> bool
     }
 }
 
-fn is_given(given: &[Given], number: u64) -> bool
-    ensures { result ≡ is_given given.now number }
+fn is_given(given: &[Given], name: &JobName) -> bool
+    ensures { result ≡ is_given given.now name.now }
 {
-    given.iter().any(|other| other.number == number)
+    given.iter().any(|other| other.name.is_same(name))
 }
 
 /// The longest time that is given for a line of the crontab.
 pub fn max_of(given: &[Given], number: u64) -> Option<u64>
-    ensures { result ≡ max_of given.now number }
+    ensures { result ≡ max_of given.now (OfLine number) }
 {
-    match given.iter().find(|other| other.number == number) {
+    match given.iter().find(|other| other.name.is_line(number)) {
+        Some(found) => Some(found.max),
+        None => None,
+    }
+}
+
+/// The longest time that is given for a job of the anacrontab.
+pub fn max_of_identifier(given: &[Given], identifier: &[u8]) -> Option<u64>
+    ensures { result ≡ max_of given.now (Identifier identifier.now) }
+{
+    match given
+        .iter()
+        .find(|other| other.name.is_identifier(identifier))
+    {
         Some(found) => Some(found.max),
         None => None,
     }
 }
 
 /// What a line at that place gives behind others, or what is wrong with it.
-fn one_given(place: u64, given: &[Given], text: &[u8]) -> Result<Given, MaxFault>
-    ensures { result ≡ one_of place given.now (max_in text.now) }
+fn one_given(
+    alloc: Global,
+    place: u64,
+    given: &[Given],
+    text: &[u8],
+) -> Result<Result<Given, MaxFault>, AllocError>
+    ensures { IfOk result (λ one. one ≡ one_of place given.now (max_in text.now)) }
 {
-    let Some((number, max)) = max_in(text) else {
-        return Err(MaxFault::Shape);
+    let Some((name, max)) = max_in(alloc, text)? else {
+        return Ok(Err(MaxFault::Shape));
     };
     if max < 1 || max > LONGEST_MAX {
-        return Err(MaxFault::Range(number));
+        return Ok(Err(MaxFault::Range(name)));
     }
-    if is_given(given, number) {
-        return Err(MaxFault::Twice(number));
+    if is_given(given, &name) {
+        return Ok(Err(MaxFault::Twice(name)));
     }
-    Ok(Given { place, number, max })
+    Ok(Ok(Given { place, name, max }))
 }
 
 /// Reads the longest times that a text gives; or finds its first line that has a fault. Empty lines
@@ -99,7 +229,7 @@ pub fn read_maxes(
     while !rest.is_empty() {
         let (line, behind) = first_line(rest);
         if !is_quiet(line) {
-            match one_given(place, given.as_slice(), line) {
+            match one_given(alloc, place, given.as_slice(), line)? {
                 Ok(one) => given.push(one)?,
                 Err(fault) => return Ok(Err((place, fault))),
             }

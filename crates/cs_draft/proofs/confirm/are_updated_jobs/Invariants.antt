@@ -4,4 +4,4 @@ use Rattle.cs_draft.proofs.confirm.are_updated_jobs.Given as goal
 
 -- of those so far
 abbrev pub invariant-loop-job : goal.invariant-loop-job
-invariant-loop-job l = All (IsUpdatedJob l.old l.max l.new) (take l.job-index l.jobs)
+invariant-loop-job l = All (IsUpdatedJob l.old l.max l.given l.new) (take l.job-index l.jobs)

@@ -1,15 +1,15 @@
-use Rattle.std.proofs.Common.{◌≡◌, ◌∙◌, [], ◌∷◌, ℕ, List, Bor, None, Some, IfSome, Ok, Err, inl, inr, map, refl, rules, subst}
+use Rattle.std.proofs.Common.{◌≡◌, ◌∙◌, [], ℕ, List, Bor, None, Some, IfSome, Ok, Err, inl, inr, map, refl, rules, subst}
 use Rattle.std.proofs.lemmas.Option.{IfSome_then}
 use Rattle.std.proofs.lemmas.Result.{err_from_is_err_and}
 use Rattle.cs_args.specs.Asked.{asked_learn}
 use Rattle.cs_io.specs.Files.{AreReadInTurn}
 use Rattle.cs_files.specs.Asked.{both_of}
 use Rattle.cs_files.specs.Trouble.{trouble}
-use Rattle.cs_files.specs.Turn.{learn_paths, table_paths}
+use Rattle.cs_files.specs.Turn.{table_paths}
 use Rattle.cs_files.proofs.AskedLemmas.{tries_nothing}
 use Rattle.cs_files.proofs.TroubleLemmas.{moved}
 use Rattle.cs_files.proofs.TurnLemmas.{none_read, some_read, then_read}
-use Rattle.cs_learn.specs.Answer.{ReadsLogs}
+use Rattle.cs_learn.specs.Answer.{ReadsLogs, learned_paths}
 use Rattle.cs_learn.specs.Max.{factor_in}
 use Rattle.cs_learn.proofs.answer.find_learnable.Goals as goal
 
@@ -17,10 +17,10 @@ pub returns-in_default-clause-value : goal.returns-in_default-clause-value
 returns-in_default-clause-value g c = λ fresh.
     let a = asked_learn c.args.words.now in
     let is : factor_in a.factor ≡ None = search rules in
-    rw is ([], tries_nothing _, (inl (refl, none_read (table_paths a.table None) (g.I.Inputs.reads c.args.inputs.now)), (refl, refl, refl)))
+    rw is ([], tries_nothing _, (inl (refl, none_read (table_paths a.table a.anacrontab) (g.I.Inputs.reads c.args.inputs.now)), (refl, refl, refl)))
 
 pub returns-in_default-clause-turn : goal.returns-in_default-clause-turn
-returns-in_default-clause-turn g c = none_read (learn_paths (asked_learn c.args.words.now)) (g.I.Inputs.reads c.args.inputs.now)
+returns-in_default-clause-turn g c = none_read (learned_paths (asked_learn c.args.words.now)) (g.I.Inputs.reads c.args.inputs.now)
 
 pub returns-in_err-tables-clause-value : goal.returns-in_err-tables-clause-value
 returns-in_err-tables-clause-value g c = λ fresh.
@@ -57,16 +57,16 @@ returns-clause-value g c = λ fresh.
 pub returns-in_err-tables-clause-turn : goal.returns-in_err-tables-clause-turn
 returns-in_err-tables-clause-turn g c =
     let a = asked_learn c.args.words.now in
-    some_read (a.table ∷ []) a.logs (g.I.Inputs.reads c.args.inputs.now) (g.I.Inputs.reads c.find_tables.new.inputs) c.find_tables.ensures.turn
+    some_read (table_paths a.table a.anacrontab) a.logs (g.I.Inputs.reads c.args.inputs.now) (g.I.Inputs.reads c.find_tables.new.inputs) c.find_tables.ensures.turn
 
 pub returns-in_err-log-clause-turn : goal.returns-in_err-log-clause-turn
 returns-in_err-log-clause-turn g c =
     let a = asked_learn c.args.words.now in
     let logs = subst (λ (l : List (Bor (List ℕ))). AreReadInTurn (map (λ (path : Bor (List ℕ)). path.now) l) (g.I.Inputs.reads c.find_tables.new.inputs) (g.I.Inputs.reads c.logs_at.new.inputs)) c.as_slice.ensures.value c.logs_at.ensures.turn in
-    then_read (a.table ∷ []) a.logs (g.I.Inputs.reads c.args.inputs.now) (g.I.Inputs.reads c.find_tables.new.inputs) (g.I.Inputs.reads c.logs_at.new.inputs) c.find_tables.ensures.turn logs
+    then_read (table_paths a.table a.anacrontab) a.logs (g.I.Inputs.reads c.args.inputs.now) (g.I.Inputs.reads c.find_tables.new.inputs) (g.I.Inputs.reads c.logs_at.new.inputs) c.find_tables.ensures.turn logs
 
 pub returns-clause-turn : goal.returns-clause-turn
 returns-clause-turn g c =
     let a = asked_learn c.args.words.now in
     let logs = subst (λ (l : List (Bor (List ℕ))). AreReadInTurn (map (λ (path : Bor (List ℕ)). path.now) l) (g.I.Inputs.reads c.find_tables.new.inputs) (g.I.Inputs.reads c.logs_at.new.inputs)) c.as_slice.ensures.value c.logs_at.ensures.turn in
-    then_read (a.table ∷ []) a.logs (g.I.Inputs.reads c.args.inputs.now) (g.I.Inputs.reads c.find_tables.new.inputs) (g.I.Inputs.reads c.logs_at.new.inputs) c.find_tables.ensures.turn logs
+    then_read (table_paths a.table a.anacrontab) a.logs (g.I.Inputs.reads c.args.inputs.now) (g.I.Inputs.reads c.find_tables.new.inputs) (g.I.Inputs.reads c.logs_at.new.inputs) c.find_tables.ensures.turn logs

@@ -55,7 +55,7 @@ IsReply offset (task.Ready ready) = λ ending. ending ≡ ready
 IsReply offset task.Other = λ ending. (ending.status ≡ 4) × (ending.out ≡ [])
 
 -- what the files hold leads to what is answered to a call: each reply to it is that, or it is a fault,
--- of which that is told
+-- of which that is reported
 abbrev pub Leads : Now → Asking → Tree → (List ℕ → Option (List ℕ)) → List ℕ → Failed → Failed
     → Result Task Trouble → Type 0
 Leads now a tree files w before failed (Ok task) = (ending : Ending)

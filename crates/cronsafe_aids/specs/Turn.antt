@@ -1,11 +1,12 @@
 -- Which files a call reads, in which order, and what is warned of before it is answered.
-use Rattle.std.specs.Prelude.{◌≡◌, ◌⊎◌, ℕ, List, [], Option, None}
+use Rattle.std.specs.Prelude.{◌≡◌, ◌⊎◌, ℕ, List, [], Option}
 use Rattle.clap.specs.Words.{Text}
 use Rattle.cs_args.specs.Asked.{Asking, Advise, Chart, Draft, Gather, Help, Learn, Lint, Room}
 use Rattle.cs_args.specs.CommandLine.{Asks}
 use Rattle.cs_io.specs.Files.{AreReadInTurn, Failed, Reads}
 use Rattle.cs_files.specs.Asked.{Warns}
-use Rattle.cs_files.specs.Turn.{AreReadToGather, chart_paths, draft_paths, judge_paths, learn_paths, lint_paths}
+use Rattle.cs_files.specs.Turn.{AreReadToGather, chart_paths, draft_paths, judge_paths, lint_paths}
+use Rattle.cs_learn.specs.Answer.{learned_paths}
 
 -- the files of what is asked are read one after the other, each in its turn, and nothing else is
 abbrev pub ReadsAsked : Asking → Reads → Reads → Type 0
@@ -13,7 +14,7 @@ ReadsAsked (Advise a) = AreReadInTurn (judge_paths a.judge)
 ReadsAsked (Room a) = AreReadInTurn (judge_paths a)
 ReadsAsked (Gather a) = AreReadToGather a
 ReadsAsked (Draft a) = AreReadInTurn (draft_paths a)
-ReadsAsked (Learn a) = AreReadInTurn (learn_paths a)
+ReadsAsked (Learn a) = AreReadInTurn (learned_paths a)
 ReadsAsked (Lint a) = AreReadInTurn (lint_paths a)
 ReadsAsked (Chart a) = AreReadInTurn (chart_paths a)
 ReadsAsked other = AreReadInTurn []
@@ -28,7 +29,7 @@ abbrev pub WarnsOf : Asking → (List ℕ → Option (List ℕ)) → Failed → 
 WarnsOf (Advise a) files = Warns files a.judge.table a.judge.anacrontab
 WarnsOf (Room a) files = Warns files a.table a.anacrontab
 WarnsOf (Draft a) files = Warns files a.table a.anacrontab
-WarnsOf (Learn a) files = Warns files a.table None
+WarnsOf (Learn a) files = Warns files a.table a.anacrontab
 WarnsOf (Chart a) files = Warns files a.day.table a.day.anacrontab
 WarnsOf Help files = λ before old new w. ⊥
 WarnsOf other files = λ before old new w. w ≡ []

@@ -30,7 +30,7 @@ fn asks_time(alloc: Global, words: &[String]) -> bool {
     }
 }
 
-/// Warns that `TZ` names no time zone, if the words ask for declarations, which tell the offset.
+/// Warns that `TZ` names no time zone, if the words ask for declarations, which have the offset.
 fn warn_of_zone<E: Output>(alloc: Global, words: &[String], err: &mut E) {
     match parse_words(alloc, words) {
         Ok(Request::Draft(_)) => {

@@ -65,7 +65,7 @@ fn find_task<'a, I: Folders, E: Output>(
             let judge = words.judge;
             let (table, jobs, path) = (judge.table, judge.anacrontab, judge.declarations);
             let planned = find_plan(alloc, inputs, err, table, jobs, path)?;
-            Ok(Task::Advise(PlanQuestion::Advice(words.within), planned))
+            Ok(Task::Advise(PlanQuestion::Advice(words.within, words.first), planned))
         }
         Request::Room(words) => {
             let (table, jobs, path) = (words.table, words.anacrontab, words.declarations);
@@ -102,7 +102,7 @@ fn find_task<'a, I: Folders, E: Output>(
     }
 }
 
-/// Answers what a call asks of what its files hold. The only error is want of memory.
+/// Answers what a call asks of what its files hold. The only error is out of memory.
 fn answer<R: Threads + Sync>(
     rt: &R,
     alloc: Global,
@@ -127,7 +127,7 @@ fn answer<R: Threads + Sync>(
 }
 
 /// The answer to the words of a call, of which the first is the program's name, at that time, once
-/// what is to be warned of was written to standard error. The only error is want of memory.
+/// what is to be warned of was written to standard error. The only error is out of memory.
 pub(crate) fn respond<R: Threads + Sync, S: AsStr, I: Folders, E: Output>(
     rt: &R,
     alloc: Global,

@@ -15,10 +15,10 @@ use std::thread::Threads;
 
 /// Runs the program on its words, of which the first is its name, and gives the status that the
 /// process ends with: 0 done, help or the version, 1 a finding, or a plan is unsafe, 2 unknown, 3 a
-/// fault in the words or in a file, 4 no call, 5 want of memory, 6 a file that can't be read, or
+/// fault in the words or in a file, 4 no call, 5 out of memory, 6 a file that can't be read, or
 /// standard output that can't be written.
 ///
-/// A draft tells the offset of clocks, and `lint` the changes of a time zone's clocks after the
+/// A draft has the offset of clocks, and `lint` the changes of a time zone's clocks after the
 /// instant.
 pub(crate) fn run_words<R: Threads + Sync, S: AsStr, I: Folders, O: Output, E: Output>(
     rt: &R,

@@ -17,7 +17,7 @@ use Rattle.cs_advise.specs.declared.source.Source.{Source}
 abbrev pub seen : ℕ → ℕ
 seen b = if (nat_lt b 32 && not (b == 9)) || b == 127 then 63 else b
 
--- the line ends in that, behind words
+-- the line ends in that, after words
 abbrev pub EndsIn : List ℕ → List ℕ → Type 0
 EndsIn line part = (words : List ℕ) × (line ≡ words ++ (part ++ codes "\n"))
 

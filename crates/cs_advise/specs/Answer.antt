@@ -1,6 +1,6 @@
 -- What is answered to `room` and to `advise`.
-use Rattle.std.specs.Prelude.{◌≡◌, ◌≢◌, ◌⊎◌, ℕ, List, [], ◌++◌, ◌∷◌, codes, flat_map}
-use Rattle.std.specs.Prelude.{Option}
+use Rattle.std.specs.Prelude.{◌≡◌, ◌≢◌, ◌⊎◌, ◌≤◌, ℕ, List, [], ◌++◌, ◌∷◌, codes, flat_map}
+use Rattle.std.specs.Prelude.{IfSome, Option, length}
 use Rattle.std.specs.List.{AllZip, concat}
 use Rattle.cs_args.specs.Asked.{AskedAdvise, AskedJudge}
 use Rattle.cs_counterexample.specs.ShownText.{shown_text}
@@ -26,7 +26,7 @@ use Rattle.cs_advise.specs.declared.change.Change.{Change}
 use Rattle.cs_advise.specs.declared.room.Room.{Room}
 use Rattle.cs_advise.specs.declared.source.Source.{Source}
 
--- a line for the room of each job, behind what stands before them
+-- a line for the room of each job, after what stands before them
 pub record TellsRooms (plan : Declared) (head out : List ℕ) : Type 0 where
   pub rooms : List Room
   pub each : AreRooms plan rooms
@@ -34,26 +34,28 @@ pub record TellsRooms (plan : Declared) (head out : List ℕ) : Type 0 where
   pub told : AllZip (IsRoomLine plan) rooms lines
   pub text : out ≡ head ++ concat lines
 
--- the line of what is broken first, and where advice is asked, comments below it that tell it
+-- the line of what is broken first, and where advice is asked, comments below it with the story
 abbrev pub IsBrokenText : Question → Declared → Shown → List ℕ → Type 0
 IsBrokenText Rooms plan shown text = text ≡ shown_text plan shown ++ 10 ∷ []
-IsBrokenText (Advice within) plan shown text = (story : List (List ℕ))
+IsBrokenText (Advice within first) plan shown text = (story : List (List ℕ))
     × (text ≡ (shown_text plan shown ++ 10 ∷ []) ++ flat_map comment story)
 
--- a line for each change that makes the plan safe, and status 0
-abbrev pub TellsAdvice : Source → Declared → ℕ → List ℕ → Type 0
-TellsAdvice source plan status out =
-    (changes : List Change) × (status ≡ 0) × (changes ≢ []) × IsAdvice source plan changes out
+-- a line for each change that makes the plan safe, at most so many where that is asked, and status 0
+abbrev pub TellsAdvice : Option ℕ → Source → Declared → ℕ → List ℕ → Type 0
+TellsAdvice first source plan status out =
+    (changes : List Change) × (status ≡ 0) × (changes ≢ [])
+    × IfSome first (λ n. length changes ≤ n) × IsAdvice source plan changes out
 
 -- what stands before the rooms of a safe plan
 abbrev pub head_of : Question → List ℕ
 head_of Rooms = []
-head_of (Advice within) = codes "safe\n"
+head_of (Advice within first) = codes "safe\n"
 
 -- what is printed of an unsafe plan: advice, where it is asked, or what is broken first
 abbrev pub IsTold : Question → Source → Declared → Shown → ℕ → List ℕ → Type 0
 IsTold question source plan shown status out =
-    ((question ≢ Rooms) × TellsAdvice source plan status out)
+    ((within : ℕ) × (first : Option ℕ) × (question ≡ Advice within first)
+    × TellsAdvice first source plan status out)
     ⊎ ((status ≡ 1) × IsBrokenText question plan shown out)
 
 -- nothing is known, and whether that is since memory ran out
@@ -63,7 +65,7 @@ unknown_status outcome.Safe = 2
 unknown_status outcome.Unsafe = 2
 unknown_status outcome.Unknown = 2
 
--- what is printed of a plan that was judged: the room of each job of a safe one, what is told of an
+-- what is printed of a plan that was judged: the room of each job of a safe one, what is said of an
 -- unsafe one, and what `judge` prints where nothing is known
 abbrev pub IsPrinted : Question → Source → Declared → Judged → ℕ → List ℕ → Type 0
 IsPrinted question source plan (Safe checked) status out =
@@ -73,7 +75,7 @@ IsPrinted question source plan (Unsafe script shown breach) status out =
 IsPrinted question source plan (Unknown reason refusal) status out =
     (status ≡ unknown_status (unknown_outcome reason)) × IsUnknown plan reason refusal out
 
--- that is printed, and behind the notes on the plan there may be more, on the places of lines
+-- that is printed, and after the notes on the plan there may be more, on the places of lines
 pub record IsAdvised (question : Question) (source : Source) (plan : Declared) (ending : Ending)
     : Type 0 where
   pub judged : Judged
@@ -101,7 +103,8 @@ abbrev pub AnswersRoom : AskedJudge → (List ℕ → Option (List ℕ)) → Lis
     → Type 0
 AnswersRoom = AnswersQuestion Rooms
 
--- `advise` prints changes, with starts that are shifted by so many minutes at most
+-- `advise` prints changes, with starts that are shifted by so many minutes at most, and so many at
+-- most where a number is given
 abbrev pub AnswersAdvise : AskedAdvise → (List ℕ → Option (List ℕ)) → List ℕ → Failed → Failed
     → Ending → Type 0
-AnswersAdvise a = AnswersQuestion (Advice a.within) a.judge
+AnswersAdvise a = AnswersQuestion (Advice a.within a.first) a.judge

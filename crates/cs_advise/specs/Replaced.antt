@@ -2,7 +2,7 @@
 use Rattle.std.specs.Prelude.{◌≡◌, ◌==◌, ℕ, List, ◌++◌, false}
 use Rattle.std.specs.List.{list_any}
 
--- a part of a text is another one, and all before it and behind it stays
+-- a part of a text is another one, and all before it and after it stays
 pub record IsReplaced (old part put new : List ℕ) : Type 0 where
   pub front : List ℕ
   pub back : List ℕ

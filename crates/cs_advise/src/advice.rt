@@ -1,5 +1,5 @@
-//! The changes that make a plan safe, as they are told.
-ghost use Rattle.std.specs.Prelude.{IfOk, IfSome};
+//! The changes that make a plan safe, as they are printed.
+ghost use Rattle.std.specs.Prelude.{◌≤◌, IfOk, IfSome, length};
 ghost use Rattle.cs_advise.specs.Advice.{IsAdvice, IsSafeLine};
 
 use crate::change::Change;
@@ -18,7 +18,7 @@ pub(crate) struct Advice {
     pub(crate) text: Vec<u8>,
 }
 
-/// The line that tells a change, if the plan is called safe with it.
+/// The line of a change, if the plan is called safe with it.
 fn safe_line<R: Threads + Sync>(
     rt: &R,
     alloc: Global,
@@ -39,21 +39,26 @@ fn safe_line<R: Threads + Sync>(
     Ok(Some(change_line(alloc, plan, &checked, change, pasted)?))
 }
 
-/// Those of some changes with which the plan is called safe, in order. The only error is want of
-/// memory.
+/// Those of some changes with which the plan is called safe, in order, until there are enough. The
+/// only error is out of memory.
 pub(crate) fn told_changes<R: Threads + Sync>(
     rt: &R,
     alloc: Global,
     source: &Source,
     plan: &Plan,
     changes: Vec<Change>,
+    most: usize,
 ) -> Result<Advice, AllocError>
-    ensures { IfOk result
+    ensures advice { IfOk result
         (λ advice. IsAdvice source.now plan.now advice.changes.items advice.text.items) }
+    ensures few { IfOk result (λ advice. length advice.changes.items ≤ most) }
 {
     let mut told = Vec::new(alloc);
     let mut text = Vec::new(alloc);
     for change in changes {
+        if most <= told.len() {
+            break;
+        }
         if let Some(line) = safe_line(rt, alloc, source, plan, &change)? {
             text.extend_from_slice(line.as_slice())?;
             told.push(change)?;

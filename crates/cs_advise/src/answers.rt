@@ -1,5 +1,5 @@
 //! The subcommands `room` and `advise`.
-ghost use Rattle.std.specs.Prelude.{◌≡◌, ◌≢◌, IfOk};
+ghost use Rattle.std.specs.Prelude.{◌≡◌, ◌≢◌, ◌≤◌, IfOk, IfSome, length};
 ghost use Rattle.cs_files.specs.Response.{status_of};
 ghost use Rattle.cs_counterexample.specs.Shown.{IsTellable};
 ghost use Rattle.cs_plan.specs.Plan.{as_plan};
@@ -30,11 +30,12 @@ use std::thread::Threads;
 pub enum Question {
     /// How long the runs of each job may take.
     Rooms,
-    /// Which changes make it safe, with starts that are shifted by so many minutes at most.
-    Advice(u64),
+    /// Which changes make it safe, with starts that are shifted by so many minutes at most; so many
+    /// changes are enough, where there is a number.
+    Advice(u64, Option<u64>),
 }
 
-/// What is told of a plan, and the status.
+/// What is printed of a plan, and the status.
 #[derive(Drop)]
 struct Reply {
     status: Status,
@@ -55,7 +56,7 @@ fn broken_text(
 {
     let mut text = shown_text(alloc, plan, broken.0)?.into_vec();
     text.extend_from_slice(b"\n")?;
-    if let Question::Advice(_) = question {
+    if let Question::Advice(_, _) = question {
         push_broken(alloc, &mut text, plan, *broken.0, broken.1.minute)?;
     }
     Ok(text)
@@ -69,20 +70,28 @@ fn advice_on<R: Threads + Sync>(
     plan: &Plan,
     broken: (&Shown, &Breach),
     within: u64,
+    first: Option<u64>,
 ) -> Result<Advice, AllocError>
-    ensures { IfOk result
+    ensures advice { IfOk result
         (λ advice. IsAdvice source.now plan.now advice.changes.items advice.text.items) }
+    ensures few { IfOk result
+        (λ advice. IfSome first (λ n. length advice.changes.items ≤ n)) }
 {
+    let most = match first {
+        Some(first) => first as usize,
+        None => usize::MAX,
+    };
     let jobs = jobs_of(alloc, plan, broken.0, broken.1)?;
     let search = Search {
         rt,
         alloc,
         source,
         plan,
+        most,
     };
     let mut changes = Vec::new(alloc);
     search.add_changes(&mut changes, jobs.as_slice(), within)?;
-    told_changes(rt, alloc, source, plan, changes)
+    told_changes(rt, alloc, source, plan, changes, most)
 }
 
 /// A line for each change that makes an unsafe plan safe, where advice is asked; or what it breaks
@@ -100,8 +109,8 @@ fn told<R: Threads + Sync>(
     ensures { IfOk result (λ told. IsTold question source.now plan.now broken.entry.0.now
         (status_of told.status) told.text.items) }
 {
-    if let Question::Advice(within) = question {
-        let advice = advice_on(rt, alloc, source, plan, broken, within)?;
+    if let Question::Advice(within, first) = question {
+        let advice = advice_on(rt, alloc, source, plan, broken, within, first)?;
         if !advice.changes.is_empty() {
             let notes = changed_places(alloc, plan, places, advice.changes.as_slice())?;
             return Ok(Reply {
@@ -126,11 +135,11 @@ fn head_of(question: Question) -> &'static [u8]
 {
     match question {
         Question::Rooms => b"",
-        Question::Advice(_) => b"safe\n",
+        Question::Advice(_, _) => b"safe\n",
     }
 }
 
-/// What is told of a plan that was judged.
+/// What is printed of a plan that was judged.
 fn printed<R: Threads + Sync>(
     rt: &R,
     alloc: Global,
@@ -192,7 +201,7 @@ fn advised<R: Threads + Sync>(
 }
 
 /// Answers `room TABLE DECLS [--anacrontab FILE]` or `advise TABLE DECLS [--anacrontab FILE]
-/// [--within MINUTES]`. The only error is want of memory.
+/// [--within MINUTES] [--first N]`. The only error is out of memory.
 pub fn answer_advise<R: Threads + Sync>(
     rt: &R,
     alloc: Global,

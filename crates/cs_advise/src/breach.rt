@@ -30,7 +30,7 @@ fn add_group(
 
 /// The jobs of which a change may mend a breach, in order: both that run together, a skipped one
 /// with its group, or those that weigh too much. They are the more the fewer there are: at most 16,
-/// and two at least. The only error is want of memory.
+/// and two at least. The only error is out of memory.
 pub(crate) fn jobs_of(
     alloc: Global,
     plan: &Plan,

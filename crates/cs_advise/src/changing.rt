@@ -202,7 +202,7 @@ fn edited_plan(
     }))
 }
 
-/// The plan with a change, if it may be changed so. The only error is want of memory.
+/// The plan with a change, if it may be changed so. The only error is out of memory.
 pub(crate) fn changed_plan(
     alloc: Global,
     source: &Source,

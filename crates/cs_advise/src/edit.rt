@@ -23,7 +23,7 @@ pub(crate) struct Edit {
 
 // ---- where something stands
 
-/// The object that a text is; none if it is no object. The only error is want of memory.
+/// The object that a text is; none if it is no object. The only error is out of memory.
 fn object_in<'v>(alloc: Global, text: &[u8], value: &'v Value) -> Result<Object<'v>, AllocError> {
     let span = trimmed(text, Span::between(0, text.len()));
     Object::new(alloc, text, (value, span))
@@ -183,7 +183,7 @@ fn member_put(
     }
 }
 
-/// The declarations with another value of a member. The only error is want of memory.
+/// The declarations with another value of a member. The only error is out of memory.
 pub(crate) fn edit_of(
     alloc: Global,
     plan: &Plan,

@@ -5,7 +5,7 @@ use cs_crontab::When;
 use cs_plan::{MAX_MINUTES, Plan};
 use cs_schedule::least_distance;
 
-/// How many minutes there are at least behind a window of the first until one of the second that
+/// How many minutes there are at least after a window of the first until one of the second that
 /// begins no sooner, below 0 where they meet; [`MAX_MINUTES`](cs_plan::MAX_MINUTES) stands for more
 /// too.
 fn gap_after(plan: &Plan, first: u16, second: u16) -> i32 {

@@ -20,7 +20,7 @@ fn job_places(
     Ok(text)
 }
 
-/// A note for each line that changes name and that has a place. The only error is want of memory.
+/// A note for each line that changes name and that has a place. The only error is out of memory.
 pub(crate) fn changed_places(
     alloc: Global,
     plan: &Plan,

@@ -44,7 +44,7 @@ fn rooms_of<R: Threads + Sync>(rt: &R, alloc: Global, plan: &Plan) -> Result<Vec
     Ok(rooms)
 }
 
-/// What stands behind the numbers of a line: ` (the most)` where that is so, and `, gap GAP`: `meet`
+/// What stands after the numbers of a line: ` (the most)` where that is so, and `, gap GAP`: `meet`
 /// in place of the minutes where windows overlap, and `-` where there is no other command.
 fn end_text(alloc: Global, room: Room) -> Result<String, AllocError> {
     let limit = if room.most == MAX_MINUTES {
@@ -77,8 +77,8 @@ fn room_line(alloc: Global, plan: &Plan, room: Room) -> Result<Vec<u8>, AllocErr
     Ok(line)
 }
 
-/// A line for the room of each job of a safe plan, behind what stands before them: first those that
-/// have the least to spare, and among those the first job first. The only error is want of memory.
+/// A line for the room of each job of a safe plan, after what stands before them: first those that
+/// have the least to spare, and among those the first job first. The only error is out of memory.
 pub(crate) fn rooms_text<R: Threads + Sync>(
     rt: &R,
     alloc: Global,

@@ -1,5 +1,5 @@
 //! Where changes that make a plan safe are looked for. Nothing here is relied on: each change is
-//! judged again before it is told.
+//! judged again before it is printed.
 
 use crate::change::{Change, Member, Shift, Start};
 use crate::changing::changed_plan;
@@ -22,6 +22,8 @@ pub(crate) struct Search<'a, R> {
     pub(crate) alloc: Global,
     pub(crate) source: &'a Source,
     pub(crate) plan: &'a Plan,
+    /// How many changes are enough.
+    pub(crate) most: usize,
 }
 
 /// Starts are shifted by each of so many minutes first, then by every fifth minute; and where that
@@ -70,7 +72,7 @@ impl<R: Threads + Sync> Search<'_, R> {
     }
 
     /// Adds the starts of two jobs later or earlier, if fields can say them and the plan is safe with
-    /// them, and tells whether it is.
+    /// them, and says whether it is.
     fn add_both(
         &self,
         changes: &mut Vec<Change>,
@@ -194,7 +196,7 @@ impl<R: Threads + Sync> Search<'_, R> {
     }
 
     /// Adds the value of a member with which the plan is safe that is nearest to one with which it
-    /// isn't, by halving what is between both.
+    /// isn't, by halving what is between both, unless there are enough changes.
     fn add_value(
         &self,
         changes: &mut Vec<Change>,
@@ -202,6 +204,9 @@ impl<R: Threads + Sync> Search<'_, R> {
         safe: u16,
         unsafe_value: u16,
     ) -> Result<(), AllocError> {
+        if self.most <= changes.len() {
+            return Ok(());
+        }
         let (mut near, mut far) = (safe, unsafe_value);
         for _ in 0..16 {
             let middle = if near < far {
@@ -227,11 +232,13 @@ impl<R: Threads + Sync> Search<'_, R> {
         Ok(())
     }
 
-    /// Adds the modes of a job with which the plan is safe, but for its own.
+    /// Adds the modes of a job with which the plan is safe, but for its own, until there are enough
+    /// changes.
     fn add_modes(&self, changes: &mut Vec<Change>, job: u16) -> Result<(), AllocError> {
         for mode in [Mode::Wait, Mode::Skip, Mode::Try, Mode::Shared] {
             let change = Change::Member(Member::Mode(job, mode));
-            if mode != self.plan.job_at(job).mode() && self.is_safe(&change)? {
+            let is_tried = changes.len() < self.most && mode != self.plan.job_at(job).mode();
+            if is_tried && self.is_safe(&change)? {
                 changes.push(change)?;
             }
         }
@@ -249,8 +256,9 @@ impl<R: Threads + Sync> Search<'_, R> {
         Ok(())
     }
 
-    /// Adds changes with which the plan is safe, of these jobs and of all together, nearest first;
-    /// where there is none, one of two starts. The only error is want of memory.
+    /// Adds changes with which the plan is safe, of these jobs and of all together, nearest first,
+    /// until there are enough; where there is none, one of two starts. The only error is out of
+    /// memory.
     pub(crate) fn add_changes(
         &self,
         changes: &mut Vec<Change>,
@@ -259,7 +267,8 @@ impl<R: Threads + Sync> Search<'_, R> {
     ) -> Result<(), AllocError> {
         let within = within.min(MOST_MINUTES) as u16;
         for minutes in 1..=within {
-            if minutes <= FINE || minutes % FINE == 0 || minutes == within {
+            let is_tried = minutes <= FINE || minutes % FINE == 0 || minutes == within;
+            if is_tried && changes.len() < self.most {
                 self.add_starts(changes, jobs, minutes)?;
             }
         }
@@ -269,7 +278,8 @@ impl<R: Threads + Sync> Search<'_, R> {
         })?;
         self.add_declared(changes, jobs)?;
         // where the greatest capacity doesn't help, none does
-        if self.is_safe(&Change::Member(Member::Capacity(MAX_CAPACITY)))? {
+        let greatest = Change::Member(Member::Capacity(MAX_CAPACITY));
+        if changes.len() < self.most && self.is_safe(&greatest)? {
             let (safe, low) = (u16::from(MAX_CAPACITY), u16::from(self.plan.capacity()));
             self.add_value(changes, Tried::Capacity, safe, low)?;
         }

@@ -67,7 +67,7 @@ fn shifted_times(schedule: &Schedule, shift: Shift) -> Option<(u64, u64)> {
     Some((minutes, hours))
 }
 
-/// Adds what stands behind the hour of a line: its day fields and its command. Those of `@daily`
+/// Adds what stands after the hour of a line: its day fields and its command. Those of `@daily`
 /// and its like are written as fields, each `*` or its first number.
 fn push_rest(
     alloc: Global,
@@ -75,9 +75,9 @@ fn push_rest(
     line: &[u8],
     schedule: &Schedule,
 ) -> Result<(), AllocError> {
-    let (first, behind) = word(skip_blanks(line));
+    let (first, rest) = word(skip_blanks(line));
     if first.first() != Some(&b'@') {
-        return text.extend_from_slice(word(skip_blanks(behind)).1);
+        return text.extend_from_slice(word(skip_blanks(rest)).1);
     }
     for part in [Part::Dom, Part::Month, Part::Dow] {
         text.push(b' ')?;
@@ -87,7 +87,7 @@ fn push_rest(
             push_number(alloc, text, u128::from(part.first()))?;
         }
     }
-    text.extend_from_slice(behind)
+    text.extend_from_slice(rest)
 }
 
 /// Where the line of that number stands, counted from 1; the end of the text where there is none.
@@ -106,7 +106,7 @@ pub(crate) fn line_span(text: &[u8], number: u32) -> Span {
     Span::of(text.len(), 0)
 }
 
-/// The start of a job later or earlier, if fields can say it. The only error is want of memory.
+/// The start of a job later or earlier, if fields can say it. The only error is out of memory.
 pub(crate) fn shifted_start(
     alloc: Global,
     source: &Source,

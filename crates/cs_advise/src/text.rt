@@ -5,7 +5,7 @@ ghost use Rattle.cs_advise.specs.Replaced.{IsReplaced};
 use cs_diagnostics::Span;
 use std::alloc::{AllocError, Global};
 
-/// Three texts, one behind the other.
+/// Three texts, one after the other.
 pub(crate) fn joined(
     alloc: Global,
     front: &[u8],

@@ -1,4 +1,4 @@
-//! The line that tells a change.
+//! The line of a change.
 ghost use Rattle.std.specs.Prelude.{◌≡◌, ◌++◌, IfOk, OnOk, map};
 ghost use Rattle.cs_advise.specs.Advice.{EndsIn, IsLine, seen};
 
@@ -25,7 +25,7 @@ fn about(mode: Mode) -> &'static str {
         }
         Mode::Try => {
             ", mode try, which cron keeps only by flock -n in the command, so that a run that \
-            finds the lock held is left out: "
+            finds the lock held is skipped: "
         }
         Mode::Wait =>
             ", mode wait, which cron keeps only by flock in the command, so that a run may start up to ",
@@ -93,7 +93,7 @@ fn push_seen(text: &mut Vec<u8>, line: &[u8]) -> Result<(), AllocError>
     Ok(())
 }
 
-/// The line of another start, behind other words: how much later or earlier it is.
+/// The line of another start, after other words: how much later or earlier it is.
 fn start_line(
     alloc: Global,
     front: &[u8],
@@ -118,8 +118,8 @@ fn start_line(
     Ok(line)
 }
 
-/// The line that tells a change, or the lines, with what is pasted into declarations, of a plan
-/// that was accepted with it. The only error is want of memory.
+/// The line of a change, or the lines, with what is pasted into declarations, of a plan that was
+/// accepted with it. The only error is out of memory.
 pub(crate) fn change_line(
     alloc: Global,
     plan: &Plan,

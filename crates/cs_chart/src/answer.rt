@@ -90,8 +90,8 @@ fn rows_of<'a>(
 
 /// Answers `chart TABLE DATE [MAX] [--anacrontab FILE] [--from M] [--to M] [--days N]
 /// [--declarations FILE]`: the picture of both tables, with one longest time for all jobs, or of the plan
-/// that declarations make of them. Days before 1970-01-04 and past 9999-12-31 are left out. The only error
-/// is want of memory.
+/// that declarations make of them. Days before 1970-01-04 and past 9999-12-31 are not drawn. The only
+/// error is out of memory.
 pub fn answer_chart(
     alloc: Global,
     request: &ChartWords<'_>,

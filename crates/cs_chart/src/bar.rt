@@ -67,7 +67,7 @@ fn add_windows(bars: &mut Vec<Bar>, windows: &[Window], start: u32) -> Result<()
 
 /// The bars of a job over the days of the picture: they cover the very minutes that its windows
 /// hold, those that began up to three days before among them. Windows that touch make one bar. The
-/// only error is want of memory.
+/// only error is out of memory.
 #[tactic(auto, using(crate::proofs::Shown::next_day), unfolding(crate::specs::Bars::is_held))]
 pub(crate) fn bars_of(
     alloc: Global,
@@ -87,7 +87,7 @@ pub(crate) fn bars_of(
     Ok(bars)
 }
 
-/// Adds lines along a row, from the beginning of each bar to its end, behind how their element begins.
+/// Adds lines along a row, from the beginning of each bar to its end, after how their element begins.
 pub(crate) fn push_stretches(text: &mut String, start: &str, bars: &[Bar]) -> Result<(), AllocError>
     ensures { OnOk result (string_bytes text.new ≡ string_bytes text.old
         ++ (start.now ++ (flat_map bar_text bars.now ++ codes "\"/>"))) }

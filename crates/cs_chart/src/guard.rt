@@ -1,4 +1,4 @@
-//! What a row's command is named after, behind a guard such as `test -x /usr/bin/backup ||`.
+//! What a row's command is named after, past a guard such as `test -x /usr/bin/backup ||`.
 use bstr::ByteSlice;
 use cs_command::program_text;
 
@@ -9,13 +9,13 @@ fn is_test(text: &[u8]) -> bool {
     is_test && text.find_byteset(b"\"'\\`;&|()<>#%".as_slice()).is_none()
 }
 
-/// What stands behind a test between these words, if they are the whole command and it has no such sign.
+/// What stands after a test between these words, if they are the whole command and it has no such sign.
 fn between<'c>(command: &'c [u8], words: [&str; 3], signs: &[u8]) -> Option<&'c [u8]> {
     let [start, middle, end] = words;
     let (front, rest) = command.split_once_str(start.as_bytes())?;
     let (test, rest) = rest.split_once_str(middle.as_bytes())?;
-    let (guarded, behind) = rest.rsplit_once_str(end.as_bytes())?;
-    let is_guard = front.is_empty() && is_test(test) && behind.is_empty();
+    let (guarded, after) = rest.rsplit_once_str(end.as_bytes())?;
+    let is_guard = front.is_empty() && is_test(test) && after.is_empty();
     if is_guard && guarded.find_byteset(signs).is_none() {
         Some(guarded.trim())
     } else {
@@ -23,8 +23,8 @@ fn between<'c>(command: &'c [u8], words: [&str; 3], signs: &[u8]) -> Option<&'c 
     }
 }
 
-/// What runs behind a guard, if the text is for certain one and a program or a group that it guards.
-fn behind_guard(command: &[u8]) -> Option<&[u8]> {
+/// What runs after a guard, if the text is for certain one and a program or a group that it guards.
+fn after_guard(command: &[u8]) -> Option<&[u8]> {
     let command = command.trim();
     for (words, signs) in [
         (["", " || (", ")"], b";()".as_slice()),
@@ -44,7 +44,7 @@ fn behind_guard(command: &[u8]) -> Option<&[u8]> {
 pub(crate) fn work_of(command: &[u8]) -> &[u8] {
     let mut rest = program_text(command);
     for _ in 0..command.len() {
-        match behind_guard(rest) {
+        match after_guard(rest) {
             Some(guarded) => rest = program_text(guarded),
             None => return rest,
         }

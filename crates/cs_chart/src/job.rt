@@ -27,8 +27,8 @@ pub(crate) struct Beside<'a> {
     pub(crate) meeting: Option<&'a Meeting<'a>>,
 }
 
-/// How many cells of a name are told where a reader points at its row.
-const TOLD_CELLS: usize = 120;
+/// How many cells of a name are shown where the pointer rests on its row.
+const TITLE_CELLS: usize = 120;
 
 /// How many cells of a line's place have room in front of its program.
 pub(crate) const PLACE_CELLS: usize = 18;
@@ -48,8 +48,9 @@ pub(crate) fn push_name(text: &mut String, row: &Row<'_>, cells: usize) -> Resul
     }
 }
 
-/// Adds the name and, behind that of a line, what it runs, as far as there is room for them in front of
-/// the bars: `line 5 /usr/bin/backup` or `job cron.weekly`.
+/// Adds the name and, after that of a line, what it runs, as far as there is room for them in front of
+/// the bars: `line 5 /usr/bin/backup` or `job cron.weekly`. Of `run-parts` that is the end, since its
+/// folder stands there.
 fn push_row_name(text: &mut String, row: &Row<'_>) -> Result<(), AllocError> {
     let start = text.len();
     let Name::Line(_, command) = row.name else {
@@ -58,7 +59,11 @@ fn push_row_name(text: &mut String, row: &Row<'_>) -> Result<(), AllocError> {
     push_name(text, row, PLACE_CELLS)?;
     text.push_str(" ")?;
     let left = NAME_CELLS.saturating_sub(text.len().saturating_sub(start));
-    push_cut(text, work_of(command), left)
+    let work = work_of(command);
+    if work.starts_with(b"run-parts ".as_slice()) {
+        return push_end(text, work, left);
+    }
+    push_cut(text, work, left)
 }
 
 /// Adds which jobs it meets, and when: `, meets line 5 first on 2024-09-13 Fri 01:30, job ..`.
@@ -66,7 +71,7 @@ fn push_met(text: &mut String, meeting: &Meeting<'_>, span: DaySpan) -> Result<(
     let mut start = ", meets ";
     for (row, first) in meeting.others.as_slice() {
         text.push_str(start)?;
-        push_name(text, row, TOLD_CELLS)?;
+        push_name(text, row, TITLE_CELLS)?;
         text.push_str(" first on ")?;
         push_minute(text, span, *first)?;
         start = ", ";
@@ -74,10 +79,10 @@ fn push_met(text: &mut String, meeting: &Meeting<'_>, span: DaySpan) -> Result<(
     Ok(())
 }
 
-/// Adds what a reader is told who points at the row: the name of the job, and where its line comes from,
+/// Adds what shows where the pointer rests on the row: the name of the job, and where its line comes from,
 /// if it is one of a gathered table, as `line 5 /usr/bin/backup from /etc/cron.d/munin:12 (munin)`, and
 /// what is declared of it.
-fn push_told(text: &mut String, row: &Row<'_>, beside: &Beside<'_>) -> Result<(), AllocError> {
+fn push_title(text: &mut String, row: &Row<'_>, beside: &Beside<'_>) -> Result<(), AllocError> {
     let words = match row.name {
         Name::Line(number, command) => {
             write!(text, "line {number} ")?;
@@ -88,12 +93,12 @@ fn push_told(text: &mut String, row: &Row<'_>, beside: &Beside<'_>) -> Result<()
             identifier
         }
     };
-    push_cut(text, words, TOLD_CELLS)?;
+    push_cut(text, words, TITLE_CELLS)?;
     if let Some(origin) = row.origin {
         text.push_str(" from ")?;
-        push_cut(text, origin.origin.as_slice(), TOLD_CELLS)?;
+        push_cut(text, origin.origin.as_slice(), TITLE_CELLS)?;
         text.push_str(" (")?;
-        push_cut(text, origin.user.as_slice(), TOLD_CELLS)?;
+        push_cut(text, origin.user.as_slice(), TITLE_CELLS)?;
         text.push_str(")")?;
     }
     let max = row.max;
@@ -103,7 +108,7 @@ fn push_told(text: &mut String, row: &Row<'_>, beside: &Beside<'_>) -> Result<()
         write!(text, ", weight {weight}")?;
         if let Some(group) = job.group {
             text.push_str(", group ")?;
-            push_cut(text, group.name(), TOLD_CELLS)?;
+            push_cut(text, group.name(), TITLE_CELLS)?;
         }
         text.push_str(match job.mode {
             Mode::Plain => "",
@@ -238,7 +243,7 @@ pub(crate) fn row_text(
 {
     let y = beside.top.saturating_add(13);
     let mut text = String::from_str(alloc, "<g class=\"row\"><title>")?;
-    push_told(&mut text, row, beside)?;
+    push_title(&mut text, row, beside)?;
     write!(text, "</title>\n<text x=\"{MARGIN}\" y=\"{y}\">")?;
     push_row_name(&mut text, row)?;
     text.push_str("</text>\n")?;

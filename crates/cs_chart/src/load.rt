@@ -44,7 +44,7 @@ pub(crate) fn add_weight(loads: &mut [u32], bars: &[Bar], weight: u8) {
     }
 }
 
-/// Adds the area under the load, or of what is above a floor, behind how its element begins.
+/// Adds the area under the load, or of what is above a floor, after how its element begins.
 fn push_area(
     text: &mut String,
     loads: &[u32],

@@ -8,7 +8,7 @@ use std::fmt::Write;
 const COLOURS: u8 = 6;
 
 /// The colour of a group by its place, counted from 0, or of jobs that are in none: those of Okabe and
-/// Ito, which also people who see few colours tell apart ("Color Universal Design", 2008), without their
+/// Ito, which also people who see few colours can distinguish ("Color Universal Design", 2008), without their
 /// black, in which due minutes are drawn, and their vermilion, in which the load is drawn that is above
 /// the capacity.
 pub(crate) fn colour_of(group: Option<u8>) -> &'static str

@@ -17,7 +17,7 @@ pub(crate) struct Drawn {
 }
 
 impl Drawn {
-    /// Adds a bar behind the others; to the last, where it begins no sooner than that and there are less
+    /// Adds a bar after the others; to the last, where it begins no sooner than that and there are less
     /// than `gap` minutes between both.
     fn push(&mut self, bar: Bar, gap: u32) -> Result<(), AllocError>
         ensures whole { OnOk result ((minute : ℕ)
@@ -70,7 +70,7 @@ pub(crate) fn without_gaps(alloc: Global, bars: &[Bar], gap: u32) -> Result<Draw
 }
 
 /// The due minutes of a schedule over the days of the picture: a bar from a minute to itself, or to the
-/// last of several of which each is less than `gap` minutes behind the one before.
+/// last of several of which each is less than `gap` minutes after the one before.
 pub(crate) fn marks_of(
     alloc: Global,
     schedule: &Schedule,

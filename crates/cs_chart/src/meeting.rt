@@ -117,7 +117,7 @@ fn meeting_of<'a>(
     Ok(Meeting { bars, others })
 }
 
-/// What the windows of each row meet, in the order of rows. The only error is want of memory.
+/// What the windows of each row meet, in the order of rows. The only error is out of memory.
 pub(crate) fn meetings_of<'a>(
     alloc: Global,
     rows: &[Row<'a>],

@@ -68,7 +68,7 @@ fn rows_drawn(
     Ok(text)
 }
 
-/// Adds what the picture leaves out, at its foot.
+/// Adds notes at the foot, such as on what the picture doesn't show.
 fn push_notes(
     alloc: Global,
     sheet: &mut Sheet,
@@ -78,20 +78,20 @@ fn push_notes(
     let days = u32::from(scene.span.days());
     let (due, gap) = (4 * days, 2 * days);
     let coarse = format!(in alloc;
-        "left out: due minutes less than {due} min behind the one before, and gaps of less than \
+        "not shown: due minutes less than {due} min after the one before, and gaps of less than \
          {gap} min between bars"
     )?;
     let red = "a triangle, and red from there on: a window of another job of its exclusive group \
                holds the minute, and not both take the group's lock";
     let waits = "a run that waits for its lock may go on later than its bar shows";
     let is_cut = scene.span.days() < scene.days.min(MOST_DAYS);
-    for (is_told, note) in [
+    for (is_shown, note) in [
         (found.is_coarse, coarse.as_str()),
         (found.meets, red),
         (found.waits, waits),
-        (is_cut, "days past 9999-12-31 are left out"),
+        (is_cut, "days past 9999-12-31 are not shown"),
     ] {
-        if is_told {
+        if is_shown {
             sheet.push_line(12, note)?;
             sheet.down(15);
         }
@@ -147,12 +147,12 @@ fn push_foot(
 /// over the minutes in which its runs may go on and marks at its due minutes.
 ///
 /// A row is named by the number or the place of its line and by what that runs, or by the identifier of
-/// its anacron job, and shows the whole command to who points at it; what is no UTF-8 and what may not
+/// its anacron job, and shows the whole command where the pointer rests; what is no UTF-8 and what may not
 /// stand in XML shows as U+FFFD. Where due minutes or bars are nearer than the
 /// picture can show, they are drawn as one, and a line at the foot says so. With declarations each job has
 /// its own longest time, its group has a colour, and below the rows is the load of each minute, the
 /// weights of the jobs of which a window holds it, beside the capacity. A run that waits for its lock may
-/// go on past its window; the picture says so where there is one. The only error is want of memory.
+/// go on past its window; the picture says so where there is one. The only error is out of memory.
 pub(crate) fn draw(alloc: Global, scene: &Scene<'_>) -> Result<String, AllocError>
     ensures { IfOk result (λ svg. IsPictureOf scene.now.span (map shown_of scene.now.rows.now)
         (string_bytes svg)) }
@@ -174,7 +174,7 @@ pub(crate) fn draw(alloc: Global, scene: &Scene<'_>) -> Result<String, AllocErro
         y: head.y.saturating_add(rows_height(scene.rows.len())),
     };
     push_foot(alloc, &mut foot, scene, &found)?;
-    // wider where names of groups stand behind the days
+    // wider where names of groups follow the days
     let width = match scene.plan {
         Some(plan) if !plan.groups().is_empty() => 1_220,
         _ => 1_120,

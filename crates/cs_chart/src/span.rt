@@ -4,7 +4,7 @@ ghost use Rattle.std.specs.Prelude.{◌≡◌, ◌+◌, ◌*◌, ◌<◌, ◌≤
 use cs_civil::{Day, MINUTES_OF_DAY};
 use std::marker::Model;
 
-/// The first day of which windows can be told, 1970-01-04: they may begin three days before it.
+/// The first day of which windows can be drawn, 1970-01-04: they may begin three days before it.
 const FIRST_DAY: u64 = 3;
 
 /// 9999-12-31, the last day.

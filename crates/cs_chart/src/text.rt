@@ -6,7 +6,7 @@ use std::alloc::AllocError;
 use std::fmt::Write;
 use unicode_width::UnicodeWidthChar;
 
-/// How many cells of a label have room, as of a group's name behind the days.
+/// How many cells of a label have room, as of a group's name after the days.
 const LABEL_CELLS: usize = 16;
 
 /// How many cells of a fixed width a character takes, one at least: so no text goes on for ever in none.

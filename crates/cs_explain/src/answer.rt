@@ -9,7 +9,7 @@ use cs_civil::Bytes;
 use cs_files::Response;
 use std::alloc::{AllocError, Global};
 
-/// What is told where nothing has the name, with the nearest one that something has, if any is
+/// What is printed where nothing has the name, with the nearest one that something has, if any is
 /// near.
 pub fn no_such_name(
     alloc: Global,
@@ -21,11 +21,11 @@ pub fn no_such_name(
         None => ("'cronsafe explain' lists all names", "", ""),
     };
     let name = if name.is_empty() { "''" } else { name };
-    let told = format!(in alloc; "cronsafe: unknown name {name}: {hint}{near}{end}\n")?;
-    Ok(told.into_bytes())
+    let text = format!(in alloc; "cronsafe: unknown name {name}: {hint}{near}{end}\n")?;
+    Ok(text.into_bytes())
 }
 
-/// The answer to `explain [NAME]`. The only error is want of memory.
+/// The answer to `explain [NAME]`. The only error is out of memory.
 pub fn answer_explain(alloc: Global, name: Option<&str>) -> Result<Response, AllocError>
     ensures { IfOk result IsExplained }
 {

@@ -28,7 +28,7 @@ right:
     },
     Meaning {
         name: "UnknownWord",
-        short: "the word behind @ is none that a crontab knows",
+        short: "the word after @ is none that a crontab knows",
         text: "The words are @yearly, @annually, @monthly, @weekly, @daily, @midnight, @hourly
 and @reboot, in lower case. Write */5 * * * * for @every 5m of robfig/cron.
 wrong:
@@ -49,7 +49,7 @@ right:
     Meaning {
         name: "BadNumber",
         short: "no number, name, comma or end of the field where one should be",
-        text: "Often a field was left out, and the command's first word is read as the fifth. A
+        text: "Often a field is missing, and the command's first word is read as the fifth. A
 field has no blanks, and names have three letters: jan to dec, sun to sat. Nor
 are forms of others read: H of Jenkins, ?, L, W and 5#2 of Quartz, and 0~59 of
 cronie. Debian's cron reads the last two as 5 and as 0. A byte order mark, which

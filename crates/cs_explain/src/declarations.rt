@@ -107,8 +107,8 @@ right:
     Meaning {
         name: "ModeNeedsGroup",
         short: "mode skip, try, wait or shared without a group",
-        text: r#"The mode says what a job does with its group's lock. Name the group, or leave
-out the mode.
+        text: r#"The mode says what a job does with its group's lock. Name the group, or remove
+the mode.
 crontab:
   30 23 * * * /usr/bin/backup
 wrong:
@@ -150,7 +150,7 @@ right:
     Meaning {
         name: "ModeOnAnacron",
         short: "an anacron entry has mode, whatever it is",
-        text: r#"Anacron jobs take no lock. Leave out the mode.
+        text: r#"Anacron jobs take no lock. Remove the mode.
 anacrontab:
   7 10 cron.weekly /usr/bin/weekly
 wrong:
@@ -190,8 +190,8 @@ right:
         short: "the command on that line is another than the entry's",
         text: r#"An edit has moved the command to another line, or changed it. Correct the line's
 number, or the command once you have seen that the entry's time and group still
-fit it, or that its line is still to be left out. 'cronsafe lint' says if lines
-have moved. A command is compared byte for byte, up to the end of its line.
+fit it, or that its line still belongs in left_out. 'cronsafe lint' says if
+lines have moved. A command is compared byte for byte, to the end of its line.
 crontab:
   0 1 * * * /usr/bin/report
   30 23 * * * /usr/bin/backup
@@ -205,8 +205,8 @@ right:
     Meaning {
         name: "AmbiguousCommand",
         short: "several lines have the command of an entry without a number",
-        text: r#"An entry of cron or left_out that tells its command alone is of the one line
-that has it. Where several have it, add the line's number.
+        text: r#"An entry of cron or left_out with a command alone belongs to the one line that
+has it. Where several have it, add the line's number.
 crontab:
   0 1 * * * /usr/bin/poll
   0 13 * * * /usr/bin/poll
@@ -234,7 +234,7 @@ right:
     Meaning {
         name: "OtherSchedule",
         short: "the command on that line has another schedule than the entry's",
-        text: r#"An entry of cron or left_out may tell the schedule of its line as 'when'. Where
+        text: r#"An entry of cron or left_out may give the schedule of its line as 'when'. Where
 the line's schedule has changed, judge the plan again with the entry corrected.
 crontab:
   0 1 * * * /usr/bin/report
@@ -245,9 +245,9 @@ right:
     },
     Meaning {
         name: "OtherParts",
-        short: "a gathered table tells other parts than those of the entry",
-        text: r#"The comments above a line of a gathered table tell what run-parts(8) runs there.
-The parts of an entry are those, in any order: 'cronsafe lint' tells which came
+        short: "a gathered table shows other parts than those of the entry",
+        text: r#"The comments above a line of a gathered table show what run-parts(8) runs there.
+The parts of an entry are those, in any order: 'cronsafe lint' says which came
 or went, and 'cronsafe draft --update' writes them anew.
 crontab:
   CRONSAFE_TABLE=gathered

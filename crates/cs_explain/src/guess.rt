@@ -38,8 +38,7 @@ fn guess_among(alloc: Global, sought: &str, kind: Kind, first: Guess) -> Result<
 /// The name of one of these kinds that at most 2 edits lead to from this one, and no more than one
 /// for each 3 of its bytes. An edit puts, takes or changes a letter. Of several it is the one with
 /// the fewest, of those the first in the order of [`names`](crate::names). None where there is none,
-/// or the name is longer than 40 bytes. Capital and small letters are alike. The only error is want
-/// of memory.
+/// or the name is longer than 40 bytes. Case doesn't matter. The only error is out of memory.
 pub(crate) fn nearest(
     alloc: Global,
     name: &str,

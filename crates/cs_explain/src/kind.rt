@@ -24,7 +24,7 @@ pub(crate) enum Kind {
     Odd,
 }
 
-/// All kinds, in the order in which they are told.
+/// All kinds, in the order in which they are listed.
 pub(crate) const KINDS: [Kind; 11] = [
     Kind::Crontab,
     Kind::System,

@@ -7,8 +7,8 @@ pub(crate) struct Meaning {
     /// What it means in a few words, those of the tables of docs/DEFINITIONS.md.
     pub(crate) short: &'static str,
     /// What it comes from and what to change, in lines of at most 80 columns, without the last
-    /// newline. An example stands behind lines `wrong:` and `right:`, two columns in, and before it
-    /// the files that it stands beside, each behind a line such as `crontab:`. Where it is of
+    /// newline. An example stands after lines `wrong:` and `right:`, two columns in, and before it
+    /// the files that it stands beside, each after a line such as `crontab:`. Where it is of
     /// another kind of file than the name, these lines say so: `wrong crontab:`.
     pub(crate) text: &'static str,
 }

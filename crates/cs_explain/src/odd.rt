@@ -50,10 +50,10 @@ right:
     Meaning {
         name: "SummerTime",
         short: "a line is due in minutes that summer time skips or repeats",
-        text: "'cronsafe lint --zone FILE' tells it. Debian's cron runs a line of skipped
+        text: "'cronsafe lint --zone FILE' reports it. Debian's cron runs a line of skipped
 minutes right after them, beside what is due then, and one of repeated minutes
 only the first time. A line with * in front of its minute goes by the clocks:
-its runs are left out, or come both times. Move the line out of these hours, so
+its runs are skipped, or come both times. Move the line out of these hours, so
 from 30 2 * * * to 30 4 * * *, or see that nothing is lost by either.",
     },
     Meaning {
@@ -86,8 +86,8 @@ right:
     Meaning {
         name: "CommandComment",
         short: "a # follows a blank in a command, and no quote or backslash it",
-        text: "A comment has a line of its own: behind a command it is a part of it, which the
-shell passes over.
+        text: "A comment needs a line of its own: after a command it is part of it, and the
+shell ignores it.
 wrong:
   30 23 * * * /usr/bin/backup # nightly
 right:
@@ -118,8 +118,8 @@ right:
     Meaning {
         name: "ValueComment",
         short: "a # follows a blank in a value without quotes",
-        text: "A comment has a line of its own: behind a value it is a part of it. Quotes
-around the value say that this is meant.
+        text: "A comment needs a line of its own: after a value it is part of it. Quotes around
+the value say that this is meant.
 wrong:
   MAILTO=root # the operator
 right:
@@ -257,9 +257,9 @@ right:
     Meaning {
         name: "NoWhen",
         short: "several lines have one command, and an entry of one has no when",
-        text: r#"The number of a line and its command are all that the entry tells. Where the
-lines change places, it declares the other one. Add the schedule of its line,
-as 'cronsafe draft' does.
+        text: r#"The entry has only the command and the number of its line. If the lines change
+places, it declares the other one. Add the schedule of its line, as
+'cronsafe draft' does.
 crontab:
   0 3 * * * /usr/bin/sync
   0 15 * * 6 /usr/bin/sync

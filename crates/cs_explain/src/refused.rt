@@ -40,7 +40,7 @@ right:
     },
     Meaning {
         name: "BacklogRises",
-        short: "a group's bound falls too fast, or leaves out a run",
+        short: "a group's bound falls too fast, or ignores a run",
         text: r#"A bound falls by at most one a minute, and rises by the longest time of each run
 that arrives: here 9 of 10 minutes are left at midnight. Make a new certificate.
 crontab:

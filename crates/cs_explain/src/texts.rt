@@ -7,7 +7,7 @@ use crate::kind::{KINDS, Kind};
 use crate::meaning::Meaning;
 use std::alloc::{AllocError, Global};
 
-/// Writes the line above the names of a kind behind the text, with an empty line before it where
+/// Writes the line above the names of a kind after the text, with an empty line before it where
 /// there is text.
 fn push_heading(text: &mut String, kind: Kind) -> Result<(), AllocError> {
     if !text.is_empty() {
@@ -36,7 +36,7 @@ fn meaning_of<'a>(meanings: &'a [Meaning], name: &str) -> Option<&'a Meaning>
         .find(|meaning| meaning.name.eq_ignore_ascii_case(name))
 }
 
-/// Writes the names of a kind behind the text, each with its short meaning in a line of its own.
+/// Writes the names of a kind after the text, each with its short meaning in a line of its own.
 fn push_names(text: &mut String, kind: Kind) -> Result<(), AllocError> {
     push_heading(text, kind)?;
     for meaning in kind.meanings() {
@@ -63,7 +63,7 @@ fn names_numbered(alloc: Global, number: &str) -> Result<String, AllocError> {
 /// What the name of a fault, a refusal or a reason of `unknown` means, in lines of at most 80
 /// columns: a paragraph for each kind of input or answer that has the name, with a wrong and a
 /// right example where there is one. Of a number a line for each name that is printed with it. None
-/// where nothing has it. Capital and small letters are alike. The only error is want of memory.
+/// where nothing has it. Case doesn't matter. The only error is out of memory.
 pub fn explain(alloc: Global, name: &str) -> Result<Option<String>, AllocError> {
     let mut text = names_numbered(alloc, name)?;
     for kind in KINDS {
@@ -80,8 +80,8 @@ pub fn explain(alloc: Global, name: &str) -> Result<Option<String>, AllocError> 
     Ok(Some(text))
 }
 
-/// The name as it is listed among those of what `lint` calls odd; none where it isn't. Capital and
-/// small letters are alike.
+/// The name as it is listed among those of what `lint` calls odd; none where it isn't. Case
+/// doesn't matter.
 pub fn odd_name(name: &str) -> Option<&'static str>
     ensures { option_map (λ found. found.now) result ≡ odd_named name.now }
 {
@@ -90,7 +90,7 @@ pub fn odd_name(name: &str) -> Option<&'static str>
 }
 
 /// All names, a line each with a short meaning, under a line for each kind of input or answer. The
-/// only error is want of memory.
+/// only error is out of memory.
 pub fn names(alloc: Global) -> Result<String, AllocError> {
     let mut text = String::new(alloc);
     for kind in KINDS {

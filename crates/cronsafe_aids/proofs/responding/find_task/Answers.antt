@@ -20,7 +20,7 @@ returns-in_err-planned-in-Advise-clause-value g c = λ fresh.
     let p = err_from_is_err_and c.from_residual.result c.from_residual.ensures.1 in
     let a = asked_judge c.in-Advise.words.judge in
     let (w, told, (warns, came)) = c.in_err-planned-in-Advise.ensures.value fresh in
-    rw (c.in-Advise.is, p.1, p.2) (w, told, (warns, stopped (FindsPlan (g.I.Inputs.whole c.args.inputs.now) a.table a.anacrontab a.declarations w) (IsAdvisedOf (Advice c.in-Advise.words.within)) (g.I.Inputs.failed c.args.inputs.now) (g.I.Inputs.failed c.find_plan.new.inputs) c.in_err-planned-in-Advise.field-0.0 came))
+    rw (c.in-Advise.is, p.1, p.2) (w, told, (warns, stopped (FindsPlan (g.I.Inputs.whole c.args.inputs.now) a.table a.anacrontab a.declarations w) (IsAdvisedOf (Advice c.in-Advise.words.within c.in-Advise.words.first)) (g.I.Inputs.failed c.args.inputs.now) (g.I.Inputs.failed c.find_plan.new.inputs) c.in_err-planned-in-Advise.field-0.0 came))
 
 pub returns-in_ok-planned-in-Advise-clause-value : goal.returns-in_ok-planned-in-Advise-clause-value
 returns-in_ok-planned-in-Advise-clause-value g c = λ fresh.

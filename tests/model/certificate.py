@@ -1,4 +1,4 @@
-"""Reads certificates as docs/CERTIFICATE.md says, or tells their fault.
+"""Reads certificates as man/cronsafe-files.5 says, or tells their fault.
 
 The fault of the smallest number that stands anywhere in the value is answered, so each kind of
 fault is looked for in the whole certificate, in the order of the numbers. Whatever a number means,

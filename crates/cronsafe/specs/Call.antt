@@ -1,4 +1,4 @@
--- What is answered to the words of a call.
+-- The answer to the words of a call.
 use Rattle.std.specs.Prelude.{◌≡◌, ◌⊎◌, ℕ, List, [], Option, Result, Ok, Err}
 use Rattle.clap.specs.Words.{Text}
 use Rattle.cs_args.specs.Asked.{Asking, Check, Day, Help, Judge, Make, Reload, Replay}
@@ -19,7 +19,7 @@ use Rattle.cs_cli.specs.Judge.{AnswersJudge, AnswersMake, IsJudged}
 use Rattle.cronsafe.specs.declared.responding.Task.{Task}
 use Rattle.cronsafe.specs.declared.responding.Task.TheVariants as task
 
--- what is answered to a subcommand once this was warned of; one of the aids is not answered
+-- the answer to a subcommand after these warnings; one of the aids is refused
 abbrev pub AnswersAsked : Asking → (List ℕ → Option (List ℕ)) → List ℕ → Failed → Failed → Answer
     → Type 0
 AnswersAsked (Day a) files w before failed = EndsAs (AnswersDay a files w before failed)
@@ -37,7 +37,7 @@ AnswersAsked (Make a) files w before failed = EndsAs (AnswersMake a files w befo
 AnswersAsked Help files w before failed = EndsAs (ShowsHelp before failed)
 AnswersAsked aid files w before failed = EndsAs (IsRejected before failed)
 
--- what is answered of what the files of a call hold
+-- the reply to what the files of a call hold
 abbrev pub IsReply : Task → Answer → Type 0
 IsReply (task.Day q tables) = EndsAs (λ ending. ending ≡ shown q tables)
 IsReply (task.Replay words found) = EndsAs (IsReplyTo (asked_replay words) found)
@@ -49,15 +49,15 @@ IsReply (task.Reload stamps) = λ answer. answer ≡ Reloads stamps
 IsReply (task.Status words) = λ answer. answer ≡ Tells words
 IsReply task.Aid = EndsAs (λ ending. (ending.status ≡ 4) × (ending.out ≡ []))
 
--- what the files hold leads to what is answered to a call: each reply to it is that, or it is a fault,
--- of which that is reported
+-- what the files hold leads to the answer to a call: each reply to it is that, or it is a fault,
+-- and that is reported
 abbrev pub Leads : Asking → (List ℕ → Option (List ℕ)) → List ℕ → Failed → Failed
     → Result Task Trouble → Type 0
 Leads a files w before failed (Ok task) =
     (answer : Answer) → IsReply task answer → AnswersAsked a files w before failed answer
 Leads a files w before failed (Err t) = AnswersAsked a files w before failed (Ends (ends [] t))
 
--- what is answered to words: what they ask, help, the version, or that they are no call
+-- the answer to words: what they ask, help, the version, or that they aren't a call
 abbrev pub Answers : List Text → (List ℕ → Option (List ℕ)) → List ℕ → Failed → Failed → Answer
     → Type 0
 Answers words files w before failed answer =

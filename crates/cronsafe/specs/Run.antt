@@ -1,4 +1,4 @@
--- What a run of the program writes, and the status that it answers.
+-- What a run of the program writes, and its status.
 use Rattle.std.specs.Prelude.{◌⊎◌, ℕ, List, Option}
 use Rattle.clap.specs.Words.{Text}
 use Rattle.cs_io.specs.Files.{Failed, Reads}
@@ -16,8 +16,8 @@ use Rattle.cs_serve.specs.Serve.{Serves}
 use Rattle.cs_ask.specs.Stopping.{Stops}
 use Rattle.cs_ask.specs.Telling.{Tells}
 
--- an ending is carried out, or an order, or a daemon is stopped or reads its files anew, or it's shown
--- what it does
+-- an ending or an order is carried out, or a daemon is stopped, reads its files again, or shows its
+-- state
 abbrev pub CarriesOut : Answer → Sink → Sink → Sink → Sink → ℕ → Type 0
 CarriesOut (answers.Ends ending) out-old out-new err-old err-new status =
     Ends ending out-old out-new err-old err-new status
@@ -38,7 +38,7 @@ Carries words files w before failed reads answer out-old out-new err-old err-new
     × IfEnds (IsHonest failed reads) answer
     × CarriesOut answer out-old out-new err-old err-new status
 
--- what is to be warned of is written if it can be, and then the words are answered, or memory ran out
+-- the warnings are written if they can be, and then the words are answered, or memory ran out
 abbrev pub Runs : List Text → (List ℕ → Option (List ℕ)) → Failed → Failed → Reads
     → Reads → Sink → Sink → Sink → Sink → ℕ → Type 0
 Runs words files before failed reads-old reads-new out-old out-new err-old err-new status =

@@ -1,4 +1,4 @@
--- Which files a call reads, in which order, and what is warned of before it is answered.
+-- Which files a call reads, in which order, and the warnings before its answer.
 use Rattle.std.specs.Prelude.{◌≡◌, ◌⊎◌, ℕ, List, [], Option}
 use Rattle.clap.specs.Words.{Text}
 use Rattle.cs_args.specs.Asked.{Asking, Check, Day, Help, Judge, Make, Replay, Run}
@@ -22,7 +22,7 @@ abbrev pub ReadsInTurn : List Text → Reads → Reads → Type 0
 ReadsInTurn words old new =
     ((a : Asking) × Asks words a × ReadsAsked a old new) ⊎ (new ≡ old)
 
--- what is warned of the tables of what was asked
+-- the warnings of the tables of what is asked
 abbrev pub WarnsOf : Asking → (List ℕ → Option (List ℕ)) → Failed → Reads → Reads → List ℕ → Type 0
 WarnsOf (Day a) files = Warns files a.table a.anacrontab
 WarnsOf (Replay a) files = Warns files a.table a.anacrontab

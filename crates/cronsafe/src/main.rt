@@ -15,7 +15,7 @@ use std::process::{ExitCode, Processes};
 use std::rt::Files;
 use std::sync::Wait;
 
-/// What runners are made with, whatever their words: the machine, and where they report something.
+/// What runners are made with, whatever their settings: the machine, and where they report.
 #[derive(Drop)]
 struct Ground<'x, R> {
     rt: &'x R,
@@ -24,7 +24,6 @@ struct Ground<'x, R> {
 }
 
 impl<'x, R: Processes + Files<File = File> + Wait> Ground<'x, R> {
-    /// Returns a runner.
     fn runner(&self, setup: RunnerSetup) -> ShellRunner<'x, R> {
         let home = if setup.has_home {
             Home::of_process(self.rt, self.alloc)

@@ -1,4 +1,3 @@
-//! The program over the machine's words and files.
 use crate::run::run_words;
 use cs_device::Runner;
 use cs_files::words_of;
@@ -12,8 +11,8 @@ use std::rt::{Clock, Env, Files};
 use std::sync::Wait;
 use std::thread::Threads;
 
-/// Runs the program on the machine's words and files, with these two outputs. Commands are run by
-/// runners that `new_runner` makes.
+/// Runs the program on the machine's words and files, with these two outputs. Runners that
+/// `new_runner` makes run the commands.
 pub(crate) fn run_program<
     R: Files<File = File> + Input + Env + Clock + AllocGlobal + Threads + Wait + Sync + Processes,
     O: Output + Write + Send,

@@ -37,8 +37,8 @@ pub(crate) enum Task<'a> {
     Aid,
 }
 
-/// Reads the files of what a call asks, each in its turn, and writes to standard error what is to be
-/// warned of the tables.
+/// Reads the files of a request, each in its turn, and writes the tables' warnings to standard
+/// error.
 fn find_task<'a, I: Inputs, E: Output>(
     alloc: Global,
     request: Request<'a>,
@@ -95,7 +95,7 @@ fn find_task<'a, I: Inputs, E: Output>(
     }
 }
 
-/// What is answered to a subcommand of the aids.
+/// Refuses a subcommand that `cronsafe-aids` answers.
 fn elsewhere(alloc: Global) -> Result<Response, AllocError>
     ensures { IfOk result (λ r. (r.status ≡ 4) × (r.out ≡ [])) }
 {
@@ -103,7 +103,6 @@ fn elsewhere(alloc: Global) -> Result<Response, AllocError>
     Ok(Response::no_call(alloc, Vec::from_slice(alloc, text)?))
 }
 
-/// Answers what a call asks of what its files hold. The only error is out of memory.
 fn answer<'a, R: Threads + Sync>(
     rt: &R,
     alloc: Global,
@@ -127,9 +126,8 @@ fn answer<'a, R: Threads + Sync>(
     }
 }
 
-/// The answer to the words of a call, of which the first is the program's name, once what is to be
-/// warned of was written to standard error. A certificate is checked by the threads of `rt`. The only
-/// error is out of memory.
+/// Returns the answer to the words of a call, of which the first is the program's name, once the
+/// warnings are written to standard error. The threads of `rt` check a certificate.
 pub(crate) fn respond<'a, R: Threads + Sync, S: AsStr, I: Inputs, E: Output>(
     rt: &R,
     alloc: Global,

@@ -23,7 +23,6 @@ use std::rt::{Clock, Files};
 use std::sync::Wait;
 use std::thread::Threads;
 
-/// Carries out an answer, and gives the status.
 fn carry_out<
     R: Threads + Wait + Sync + Files<File = File> + Input + Clock + Processes,
     O: Output + Write + Send,
@@ -56,15 +55,10 @@ fn carry_out<
     }
 }
 
-/// Runs the program on its words, of which the first is its name, and gives the status that the
-/// process ends with: 0 done, safe, help or the version, 1 unsafe, or an event or a certificate was
-/// refused, the history of a run is full, or a daemon has a late run or a stamp that it couldn't
-/// write, 2 unknown, or no daemon to stop or to ask, 3 a fault in the words or in a file, 4 no
-/// call, 5 out of memory, 6 a file that can't be read, standard output that can't be written, no
-/// folder of stamps, or a clock that can't be read or goes back.
+/// Runs the program on its words, of which the first is its name, and returns the status that the
+/// process ends with ([`Status`](cs_files::Status)).
 ///
-/// The words of `run` come back when the run has ended, and its log is written to standard output. Its
-/// commands are run by runners that `new_runner` makes.
+/// `run` returns when its daemon has ended. Runners that `new_runner` makes run its commands.
 pub(crate) fn run_words<
     R: Threads + Wait + Sync + Files<File = File> + Input + Clock + Processes,
     S: AsStr,

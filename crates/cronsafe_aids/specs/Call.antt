@@ -1,4 +1,4 @@
--- What is answered to the words of a call.
+-- The answer to the words of a call.
 use Rattle.std.specs.Prelude.{◌≡◌, ◌⊎◌, ℕ, ℤ, true, ⊤, List, [], Option, Result, Ok, Err}
 use Rattle.clap.specs.Words.{Text}
 use Rattle.cs_args.specs.Asked.{Advise, Asking, Chart, Draft, Explain, Gather, Help}
@@ -22,8 +22,8 @@ use Rattle.cronsafe_aids.specs.declared.now.Now.{Now}
 use Rattle.cronsafe_aids.specs.declared.responding.Task.{Task}
 use Rattle.cronsafe_aids.specs.declared.responding.Task.TheVariants as task
 
--- what is answered to a subcommand once this was warned of, at this time; one of the other program is
--- not answered
+-- The answer to a subcommand at this time, after warnings `w`; those of the other program are
+-- rejected.
 abbrev pub AnswersAsked : Now → Asking → Tree → (List ℕ → Option (List ℕ)) → List ℕ → Failed → Failed
     → Ending → Type 0
 AnswersAsked now (Advise a) tree files w before failed = AnswersAdvise a files w before failed
@@ -38,12 +38,12 @@ AnswersAsked now (Explain name) tree files w before failed = AnswersExplain befo
 AnswersAsked now Help tree files w before failed = ShowsHelp before failed
 AnswersAsked now other tree files w before failed = IsRejected before failed
 
--- where it was answered as its files were read, this holds of how
+-- where the answer was made while the files were read, P holds of it
 abbrev pub IfReady : (Ending → Type 0) → Task → Type 0
 IfReady P (task.Ready ending) = P ending
 IfReady P _ = ⊤
 
--- what is answered of what the files of a call hold, where clocks are so far ahead of UTC
+-- a reply to what the files of a call hold, with clocks `offset` minutes ahead of UTC
 abbrev pub IsReply : ℤ → Task → Ending → Type 0
 IsReply offset (task.Advise question planned) = IsAdvisedOf question planned
 IsReply offset (task.Draft words found) = λ ending.
@@ -54,8 +54,7 @@ IsReply offset (task.Explain name) = IsExplained
 IsReply offset (task.Ready ready) = λ ending. ending ≡ ready
 IsReply offset task.Other = λ ending. (ending.status ≡ 4) × (ending.out ≡ [])
 
--- what the files hold leads to what is answered to a call: each reply to it is that, or it is a fault,
--- of which that is reported
+-- each reply to what the files hold answers the call, and so does the report of a fault
 abbrev pub Leads : Now → Asking → Tree → (List ℕ → Option (List ℕ)) → List ℕ → Failed → Failed
     → Result Task Trouble → Type 0
 Leads now a tree files w before failed (Ok task) = (ending : Ending)
@@ -63,7 +62,7 @@ Leads now a tree files w before failed (Ok task) = (ending : Ending)
 Leads now a tree files w before failed (Err t) =
     AnswersAsked now a tree files w before failed (ends [] t)
 
--- what is answered to words: what they ask, help, the version, or that they are no call
+-- the answer to what the words ask: a subcommand, help or the version; or the words are rejected
 abbrev pub Answers : Now → List Text → Tree → (List ℕ → Option (List ℕ)) → List ℕ → Failed → Failed
     → Ending → Type 0
 Answers now words tree files w before failed ending =

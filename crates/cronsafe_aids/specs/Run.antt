@@ -1,4 +1,4 @@
--- What a run of the program writes, and the status that it answers.
+-- What a run of the program writes, and its status.
 use Rattle.std.specs.Prelude.{◌⊎◌, ℕ, List, Option}
 use Rattle.clap.specs.Words.{Text}
 use Rattle.cs_io.specs.Files.{Failed, Reads}
@@ -11,7 +11,7 @@ use Rattle.cronsafe_aids.specs.Call.{Answers}
 use Rattle.cronsafe_aids.specs.Turn.{WarnsOn}
 use Rattle.cronsafe_aids.specs.declared.now.Now.{Now}
 
--- the words are answered so, and the answer is written
+-- the words are answered, and the answer is written
 abbrev pub Carries : Now → List Text → Tree → (List ℕ → Option (List ℕ)) → List ℕ → Failed → Failed
     → Reads → Ending → Sink → Sink → Sink → Sink → ℕ → Type 0
 Carries now words tree files w before failed reads ending out-old out-new err-old err-new status =
@@ -19,7 +19,7 @@ Carries now words tree files w before failed reads ending out-old out-new err-ol
     × IsHonest failed reads ending
     × Ends ending out-old out-new err-old err-new status
 
--- what is to be warned of is written if it can be, and then the words are answered, or memory ran out
+-- warnings are written if they can be; then the words are answered, or memory runs out
 abbrev pub Runs : Now → List Text → Tree → (List ℕ → Option (List ℕ)) → Failed → Failed → Reads
     → Reads → Sink → Sink → Sink → Sink → ℕ → Type 0
 Runs now words tree files before failed reads-old reads-new out-old out-new err-old err-new status =

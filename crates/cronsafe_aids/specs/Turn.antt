@@ -1,4 +1,4 @@
--- Which files a call reads, in which order, and what is warned of before it is answered.
+-- Which files a call reads, in which order, and what it warns of first.
 use Rattle.std.specs.Prelude.{◌≡◌, ◌⊎◌, ℕ, List, [], Option}
 use Rattle.clap.specs.Words.{Text}
 use Rattle.cs_args.specs.Asked.{Asking, Advise, Chart, Draft, Gather, Help, Learn, Lint, Room}
@@ -8,7 +8,7 @@ use Rattle.cs_files.specs.Asked.{Warns}
 use Rattle.cs_files.specs.Turn.{AreReadToGather, chart_paths, draft_paths, judge_paths, lint_paths}
 use Rattle.cs_learn.specs.Answer.{learned_paths}
 
--- the files of what is asked are read one after the other, each in its turn, and nothing else is
+-- the files of what is asked are read in turn, and nothing else is
 abbrev pub ReadsAsked : Asking → Reads → Reads → Type 0
 ReadsAsked (Advise a) = AreReadInTurn (judge_paths a.judge)
 ReadsAsked (Room a) = AreReadInTurn (judge_paths a)
@@ -19,12 +19,12 @@ ReadsAsked (Lint a) = AreReadInTurn (lint_paths a)
 ReadsAsked (Chart a) = AreReadInTurn (chart_paths a)
 ReadsAsked other = AreReadInTurn []
 
--- and so of what the words ask; else nothing is read
+-- of a call that asks for nothing nothing is read
 abbrev pub ReadsInTurn : List Text → Reads → Reads → Type 0
 ReadsInTurn words old new =
     ((a : Asking) × Asks words a × ReadsAsked a old new) ⊎ (new ≡ old)
 
--- what is warned of the tables of what was asked
+-- warnings about the tables of what is asked
 abbrev pub WarnsOf : Asking → (List ℕ → Option (List ℕ)) → Failed → Reads → Reads → List ℕ → Type 0
 WarnsOf (Advise a) files = Warns files a.judge.table a.judge.anacrontab
 WarnsOf (Room a) files = Warns files a.table a.anacrontab
@@ -34,7 +34,7 @@ WarnsOf (Chart a) files = Warns files a.day.table a.day.anacrontab
 WarnsOf Help files = λ before old new w. ⊥
 WarnsOf other files = λ before old new w. w ≡ []
 
--- and so of what the words ask; else nothing
+-- a call that asks for nothing has none
 abbrev pub WarnsOn : List Text → (List ℕ → Option (List ℕ)) → Failed → Reads → Reads → List ℕ → Type 0
 WarnsOn words files before old new w =
     ((a : Asking) × Asks words a × WarnsOf a files before old new w)

@@ -1,4 +1,4 @@
-//! The program `cronsafe-aids`: the operator's aids, over its words, its inputs and two outputs.
+//! Runs the operator's aids, the program `cronsafe-aids`, on its words, inputs and outputs.
 #![tactic(auto)]
 
 mod now;

@@ -1,4 +1,4 @@
-//! What time it is.
+//! The time, and the offset of local time.
 use cs_table::MAX_TABLE;
 use jiff_core::{Error, Timestamp};
 use jiff_tz::{TimeZone, Tzif, posix};
@@ -8,26 +8,25 @@ use std::rt::{Clock, Env, Files};
 use std::time::SystemTime;
 use std::{env, fs, io};
 
-/// What time it is.
+/// The time of a call.
 #[derive(Clone, Copy)]
 pub(crate) struct Now {
-    /// The minutes by which local time is ahead of UTC.
+    /// How many minutes local time is ahead of UTC.
     pub(crate) offset: i16,
     /// The instant, in whole seconds.
     pub(crate) instant: Timestamp,
 }
 
-/// What the machine's clock shows, if it can be read.
+/// The machine's clock, if it can be read.
 pub(crate) fn read_clock<R: Clock>(rt: &R) -> Option<Timestamp> {
     let now = SystemTime::now(rt).ok()?;
     let since = now.duration_since(SystemTime::UNIX_EPOCH).ok()?;
     Timestamp::from_nanosecond(i128::from(since.as_secs()) * 1_000_000_000).ok()
 }
 
-/// The minutes by which local time is ahead of UTC at an instant: by `TZ`, which the C library reads
-/// so too (`tzset(3)`), or else by `/etc/localtime`, or else 0. `TZ` names a file of the machine, or
-/// else is a POSIX rule, with or without a colon in front; an empty name is UTC too. None where it's
-/// set and names no time zone. The only error is out of memory.
+/// How many minutes local time is ahead of UTC at an instant: by `TZ` as in `tzset(3)`, else by
+/// `/etc/localtime`, else 0. `TZ` is the name of a zone's file or a POSIX rule, with or without a
+/// colon before it; an empty name is UTC. None where `TZ` is neither.
 pub(crate) fn local_offset<R: Env + Files + AllocGlobal>(
     rt: &R,
     at: Timestamp,
@@ -55,8 +54,8 @@ pub(crate) fn local_offset<R: Env + Files + AllocGlobal>(
     }
 }
 
-/// The path of the file of a time zone: its name if that is a path from the root, or else the name
-/// below the folder that `TZDIR` names, or `/usr/share/zoneinfo`. A name with `..` has none.
+/// The path of a time zone's file: an absolute name itself, another below `TZDIR` or
+/// `/usr/share/zoneinfo`; none with `..`.
 fn zone_path<R: Env + AllocGlobal>(rt: &R, name: &str) -> Result<Option<String>, AllocError> {
     if name.starts_with('/') {
         return Ok(Some(String::from_str(rt.alloc(), name)?));
@@ -74,7 +73,7 @@ fn zone_path<R: Env + AllocGlobal>(rt: &R, name: &str) -> Result<Option<String>,
     Ok(Some(path))
 }
 
-/// What is known of a file that can't be read: nothing, unless memory ran out.
+/// A file that can't be read has no zone, unless memory ran out.
 fn unread(error: &io::Error) -> Result<Option<i16>, AllocError> {
     match error.kind() {
         ErrorKind::OutOfMemory => Err(AllocError),
@@ -82,8 +81,8 @@ fn unread(error: &io::Error) -> Result<Option<i16>, AllocError> {
     }
 }
 
-/// The offset of the time zone of a file (TZif, RFC 9636), if there is such a file. Of no bytes are
-/// files of the kernel too, a read of which may never end.
+/// The offset of a time zone's file (TZif, RFC 9636); none for another file. Files without a length
+/// are skipped, as the kernel has some whose read never ends.
 fn file_offset<R: Files + AllocGlobal>(
     rt: &R,
     path: &str,
@@ -107,7 +106,7 @@ fn file_offset<R: Files + AllocGlobal>(
     }
 }
 
-/// The minutes by which a time zone is ahead of UTC at an instant.
+/// How many minutes the zone is ahead of UTC at an instant.
 fn offset_minutes(zone: TimeZone<'_>, at: Timestamp) -> Option<i16> {
     i16::try_from(zone.to_offset(at).seconds / 60).ok()
 }

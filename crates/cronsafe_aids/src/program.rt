@@ -1,4 +1,4 @@
-//! The program over the machine's words, files and clock.
+//! The program on the machine's words, files and clock.
 use crate::now::{Now, local_offset, read_clock};
 use crate::run::run_words;
 use cs_args::{Request, parse_words};
@@ -10,7 +10,7 @@ use std::process::ExitCode;
 use std::rt::{Clock, Env, Files};
 use std::thread::Threads;
 
-/// Says that plans are being judged, if the words ask for that many times over.
+/// Announces that many plans are to be judged, if the words ask for that.
 fn announce<E: Output>(alloc: Global, words: &[String], err: &mut E) {
     match parse_words(alloc, words) {
         Ok(Request::Advise(_)) | Ok(Request::Room(_)) => {
@@ -22,7 +22,7 @@ fn announce<E: Output>(alloc: Global, words: &[String], err: &mut E) {
     }
 }
 
-/// Whether what the words ask can't be answered without a clock.
+/// Whether the answer to the words needs a clock.
 fn asks_time(alloc: Global, words: &[String]) -> bool {
     match parse_words(alloc, words) {
         Ok(Request::Lint(request)) => request.zone.is_some(),
@@ -42,8 +42,8 @@ fn warn_of_zone<E: Output>(alloc: Global, words: &[String], err: &mut E) {
     }
 }
 
-/// What time it is. Where it isn't known and isn't asked for, it is 1970-01-01 00:00 UTC. A time zone
-/// that isn't known is UTC. Where there is no answer, says why, and gives the status.
+/// The time; 1970-01-01 00:00 UTC if it is neither known nor needed. An unknown time zone is UTC.
+/// An error was printed, and is the status.
 fn time_for<R: Clock + Env + Files + AllocGlobal, E: Output>(
     rt: &R,
     words: &[String],
@@ -70,7 +70,7 @@ fn time_for<R: Clock + Env + Files + AllocGlobal, E: Output>(
     Ok(Now { offset, instant })
 }
 
-/// The answer to these words, as a status.
+/// Answers the words; returns the status, or the status of an error that was printed.
 fn answered<R: Files + Input + Env + Clock + AllocGlobal + Threads + Sync, O: Output, E: Output>(
     rt: &R,
     is_watched: bool,
@@ -86,8 +86,8 @@ fn answered<R: Files + Input + Env + Clock + AllocGlobal + Threads + Sync, O: Ou
     Ok(run_words(rt, rt.alloc(), words, now, &mut inputs, out, err))
 }
 
-/// Runs the program on the machine's words, files and clock, with these two outputs, the second of
-/// which someone may watch.
+/// Runs the program on the machine's words, files and clock; `is_watched` says whether standard
+/// error is a terminal.
 pub(crate) fn run_program<
     R: Files + Input + Env + Clock + AllocGlobal + Threads + Sync,
     O: Output,

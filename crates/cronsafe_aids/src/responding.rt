@@ -25,7 +25,7 @@ use std::alloc::{AllocError, Global};
 use std::convert::AsStr;
 use std::thread::Threads;
 
-/// What a call asks, with what its files hold.
+/// What a call asks, with the content of its files.
 #[derive(Drop)]
 pub(crate) enum Task<'a> {
     Advise(PlanQuestion, Planned),
@@ -34,14 +34,14 @@ pub(crate) enum Task<'a> {
     Learn(&'a str, Option<Learnable>),
     Chart(ChartWords<'a>, Question, Drawable),
     Explain(Option<&'a str>),
-    /// Answered as its files were read.
+    /// Answered while its files were read.
     Ready(Response),
     /// A subcommand of the other program.
     Other,
 }
 
-/// Reads the files of what a call asks, each in its turn, and writes to standard error what is to be
-/// warned of the tables.
+/// Reads the files of what a call asks, in turn, and writes warnings about the tables to standard
+/// error.
 fn find_task<'a, I: Folders, E: Output>(
     alloc: Global,
     request: Request<'a>,
@@ -102,7 +102,6 @@ fn find_task<'a, I: Folders, E: Output>(
     }
 }
 
-/// Answers what a call asks of what its files hold. The only error is out of memory.
 fn answer<R: Threads + Sync>(
     rt: &R,
     alloc: Global,
@@ -126,8 +125,8 @@ fn answer<R: Threads + Sync>(
     }
 }
 
-/// The answer to the words of a call, of which the first is the program's name, at that time, once
-/// what is to be warned of was written to standard error. The only error is out of memory.
+/// Answers the words of a call, the first of which is the program's name, and writes warnings to
+/// standard error.
 pub(crate) fn respond<R: Threads + Sync, S: AsStr, I: Folders, E: Output>(
     rt: &R,
     alloc: Global,
@@ -136,7 +135,7 @@ pub(crate) fn respond<R: Threads + Sync, S: AsStr, I: Folders, E: Output>(
     inputs: &mut I,
     err: &mut E,
 ) -> Result<Response, AllocError>
-    // Where each path of known bytes stands at its front.
+    // If no file of known content has been read so far.
     ensures value { IsFresh (I.whole inputs.old) (I.left inputs.old)
         → Tells (λ w. WarnsOn (map S.text words.now) (I.whole inputs.old) (I.failed inputs.old)
         (I.reads inputs.old) (I.reads inputs.new) w

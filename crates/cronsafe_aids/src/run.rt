@@ -13,13 +13,10 @@ use std::alloc::{AllocError, Global};
 use std::convert::AsStr;
 use std::thread::Threads;
 
-/// Runs the program on its words, of which the first is its name, and gives the status that the
-/// process ends with: 0 done, help or the version, 1 a finding, or a plan is unsafe, 2 unknown, 3 a
-/// fault in the words or in a file, 4 no call, 5 out of memory, 6 a file that can't be read, or
-/// standard output that can't be written.
-///
-/// A draft has the offset of clocks, and `lint` the changes of a time zone's clocks after the
-/// instant.
+/// Runs the program on its words, the first of which is its name. Returns the status of the
+/// process: 0 done, help or the version, 1 a finding, or a plan is unsafe, 2 unknown, 3 a fault in
+/// the words or in a file, 4 no call, 5 out of memory, 6 a file can't be read, or standard output
+/// can't be written.
 pub(crate) fn run_words<R: Threads + Sync, S: AsStr, I: Folders, O: Output, E: Output>(
     rt: &R,
     alloc: Global,
@@ -29,7 +26,7 @@ pub(crate) fn run_words<R: Threads + Sync, S: AsStr, I: Folders, O: Output, E: O
     out: &mut O,
     err: &mut E,
 ) -> u8
-    // Where each path of known bytes stands at its front.
+    // If no file of known content has been read so far.
     ensures value { IsFresh (I.whole inputs.old) (I.left inputs.old)
         → Runs now (map S.text words.now) I.tree
         (I.whole inputs.old) (I.failed inputs.old) (I.failed inputs.new)

@@ -12,8 +12,7 @@ use Rattle.cs_plan.specs.Plan.{Declared, IsWhole, IsListed, crons, job_at, no_jo
 use Rattle.cs_advise.specs.Changed.{job_with_max, with_max}
 use Rattle.cs_plan.proofs.Plans.{at_or, plain_at, possible}
 
--- what holds of each past a place still does where an element changes to one of which it holds, if
--- that is past the place
+-- past a place, P still holds of each where one element changes
 all_behind : {X : Type 0} (P : X → Type 0) (n : ℕ) (xs : List X) (j : ℕ) (x : X) → All P (drop n xs) → (n ≤ j → P x) → All P (drop n (set xs j x))
 all_behind P n xs j x each new = elim (cases_lt j n) [
   | inl before ↦ subst (All P) (sym (drop-set-lt n xs j x before)) each
@@ -22,7 +21,7 @@ all_behind P n xs j x each new = elim (cases_lt j n) [
       (subst (All P) (sym (drop-set-add n xs (j - n) x)) (All-set P (drop n xs) (j - n) x (new behind) each))
 ]
 
--- a plan with another declaration of one job, of the same line and in range
+-- the other declaration is for the same line, and in range
 pub changed : (d : Declared) → IsWhole d → (j : ℕ) (job : DeclaredJob)
     → job.place ≡ (job_at d j).place → IsPossible job → IsListed (length d.groups) job → (crons d ≤ j → job.mode ≡ Plain)
     → IsWhole (record d { jobs = set d.jobs j job })

@@ -1,4 +1,3 @@
--- The rooms of jobs, from what was answered for each number.
 use Rattle.std.proofs.Common.{◌≡◌, ℕ, zero, suc, ◌+◌, List, [], ◌∷◌, map, Ok, Err, Result, Vec, Global, refl, subst, sym}
 use Rattle.std.specs.Prelude.{All, Contains, IfOk, MatchResult}
 use Rattle.std.specs.List.{AllZip, range_with_len}
@@ -6,11 +5,9 @@ use Rattle.std.specs.declared.alloc.AllocError.{AllocError}
 use Rattle.std.proofs.lemmas.List.Elements.{All-cons, All-nil}
 use Rattle.cs_advise.specs.declared.room.Room.{Room}
 
--- the answer for a number is its room
 abbrev pub IsAnswer : (Room → Type 0) → ℕ → Result Room AllocError → Type 0
 IsAnswer P number answer = IfOk answer (λ room. (room.job ≡ number) × P room)
 
--- the numbers of the jobs
 abbrev pub numbers_of : List Room → List ℕ
 numbers_of rooms = map (λ (room : Room). room.job) rooms
 

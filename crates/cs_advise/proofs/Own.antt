@@ -1,4 +1,3 @@
--- A plan with a longest time that it has.
 use Rattle.std.proofs.Common.{◌≡◌, ℕ, ap, sym, subst}
 use Rattle.std.proofs.lemmas.List.{set-get_or}
 use Rattle.cs_advise.specs.Changed.{with_max}

@@ -1,4 +1,3 @@
--- Starts that come later.
 use Rattle.std.proofs.Common.{◌≡◌, ℕ, ◌+◌, ◌/◌, ◌%◌, ◌<◌, ◌≤◌, Bool, true, false, ◌&&◌, ◌||◌, refl, sym, ap, subst, ◌∙◌, arith, ◌==◌, inl, inr, List, if◌then◌else◌}
 use Rattle.std.proofs.lemmas.Bool.{cases_lt}
 use Rattle.cs_civil.specs.Calendar.{kind, longest}
@@ -10,7 +9,6 @@ use Rattle.cs_schedule.proofs.Ranges.{has-filter}
 use Rattle.cs_crontab.specs.declared.table.When.TheVariants.{At}
 use Rattle.cs_advise.specs.Change.{IsLater}
 
--- no month is longer
 longest_month : (m : ℕ) → longest m ≤ 31
 longest_month m = by_case (m == 2) ((m == 4) || (m == 6) || (m == 9) || (m == 11))
   where
@@ -19,7 +17,6 @@ longest_month m = by_case (m == 2) ((m == 4) || (m == 6) || (m == 9) || (m == 11
     by_case false true = omega arith
     by_case false false = omega arith
 
--- the same numbers
 abbrev pub AreSame : List ℕ → List ℕ → Type 0
 AreSame one other = (n : ℕ) → n < 64 → has one n ≡ has other n
 
@@ -35,7 +32,6 @@ same_days one other dom_star dom month dow_star dow d =
     let g : has one.dow.numbers k.dow ≡ has other.dow.numbers k.dow = dow k.dow (omega (arith, is.dow)) in
     rw (e, f, g, dom_star, dow_star) refl
 
--- a field that has each number of some
 abbrev pub HasAll : List ℕ → ℕ → ℕ → Type 0
 HasAll numbers first last = (n : ℕ) → first ≤ n → n ≤ last → has numbers n ≡ true
 
@@ -53,16 +49,15 @@ each_day s dom month dow d =
     either true = refl
     either false = refl
 
--- a minute of a day among those that pass
 found : (p : ℕ → Bool) (m : ℕ) → m < 1440 → has (minutes_where p) m ≡ p m
 unfolding minutes_where
 found p m below = has-filter p 0 1440 m (omega arith) (omega arith)
 
--- the minutes of a day so many later
+-- the minutes of a day, so many later
 abbrev pub AreLater : List ℕ → List ℕ → ℕ → Type 0
 AreLater before after n = (m : ℕ) → m < 1440 → has after ((m + n) % 1440) ≡ has before m
 
--- what comes over a midnight is due on each day
+-- what passes midnight is due on each day
 abbrev StaysOrDaily : Times → ℕ → Type 0
 StaysOrDaily one n =
     (m d : ℕ) → m < 1440 → 1440 ≤ m + n → is_time_due one m ≡ true → is_day_due one (kind d) ≡ true

@@ -1,4 +1,4 @@
--- What is advised.
+-- What `advise` prints of changes.
 use Rattle.std.specs.Prelude.{◌≡◌, ◌==◌, ◌&&◌, ◌||◌, ℕ, List, ◌++◌, codes, map, nat_lt, not}
 use Rattle.std.specs.Prelude.{if◌then◌else◌}
 use Rattle.std.specs.List.{AllZip, concat}
@@ -17,12 +17,12 @@ use Rattle.cs_advise.specs.declared.source.Source.{Source}
 abbrev pub seen : ℕ → ℕ
 seen b = if (nat_lt b 32 && not (b == 9)) || b == 127 then 63 else b
 
--- the line ends in that, after words
+-- the line is some words and then this
 abbrev pub EndsIn : List ℕ → List ℕ → Type 0
 EndsIn line part = (words : List ℕ) × (line ≡ words ++ (part ++ codes "\n"))
 
--- The line of a start ends in that of the table, and there is one for each of two. That of another
--- value ends in what is pasted into declarations.
+-- The line of a start ends in that of the table; of two starts each has a line. The line of another
+-- value ends in what is to be pasted into declarations.
 abbrev pub IsLine : Change → List ℕ → List ℕ → Type 0
 IsLine (Alone start) pasted line = EndsIn line (map seen start.line)
 IsLine (Both one other) pasted lines = (first : List ℕ) × (last : List ℕ)
@@ -30,7 +30,7 @@ IsLine (Both one other) pasted lines = (first : List ℕ) × (last : List ℕ)
     × (lines ≡ first ++ last)
 IsLine (Member member) pasted line = EndsIn line pasted
 
--- the plan with the change was judged safe, and the line has what to paste
+-- the plan with the change is judged safe, and the line has what to paste
 pub record IsSafeLine (source : Source) (plan : Declared) (change : Change) (line : List ℕ) : Type 0
   where
     pub checked : Checked
@@ -39,7 +39,7 @@ pub record IsSafeLine (source : Source) (plan : Declared) (change : Change) (lin
     pub safe : IsJudgement (plan_in checked) (Safe checked)
     pub told : IsLine change pasted line
 
--- so it is with each of the changes alone, and the text has their lines
+-- each change alone makes the plan safe, and the text is their lines
 pub record IsAdvice (source : Source) (plan : Declared) (changes : List Change) (text : List ℕ)
     : Type 0 where
   pub lines : List (List ℕ)

@@ -18,8 +18,8 @@ use Rattle.cs_advise.specs.declared.change.Member.{Member}
 use Rattle.cs_advise.specs.declared.change.Shift.{Shift}
 use Rattle.cs_advise.specs.declared.source.Source.{Source}
 
--- so many minutes after each minute the other is due exactly where the one is due at the minute:
--- minute 0 is 1970-01-01 00:00
+-- From minute `minutes` on, the other is due exactly `minutes` after each minute at which the one
+-- is. Minute 0 is 1970-01-01 00:00.
 abbrev pub IsLater : ℕ → When → When → Type 0
 IsLater minutes one other = (t : ℕ) → is_due other (t + minutes) ≡ is_due one t
 
@@ -31,31 +31,30 @@ IsMovedBy false minutes old new = IsLater minutes new old
 abbrev pub IsShifted : Shift → When → When → Type 0
 IsShifted shift = IsMovedBy shift.is_later shift.minutes
 
--- a shift by no minute
 abbrev pub unmoved : Shift
 unmoved = record { is_later = true; minutes = 0 }
 
--- how a change shifts the starts of a cron job: by no minute where it says nothing of them
+-- how a change shifts the starts of a cron job: by no minute, if it isn't about the job
 abbrev pub shift_of : Change → ℕ → Shift
 shift_of (Alone start) job = if start.job == job then start.shift else unmoved
 shift_of (Both one other) job =
     if one.job == job then one.shift else (if other.job == job then other.shift else unmoved)
 shift_of (Other member) job = unmoved
 
--- the same command, on the same line, and its starts are shifted so
+-- the same command on the same line, with shifted starts
 pub record IsMovedLine (shift : Shift) (old new : CommandLine) : Type 0 where
   pub number : old.number ≡ new.number
   pub command : old.command ≡ new.command
   pub when : IsShifted shift old.when new.when
 
--- as many commands, and the starts of each are shifted as the change says
+-- the same number of commands, each shifted as the change says
 pub record AreMoved (change : Change) (old new : List CommandLine) : Type 0 where
   pub many : length old ≡ length new
   pub each : (j : ℕ) → j < length old
       → IsMovedLine (shift_of change j)
       (slice_index_or old j no_command) (slice_index_or new j no_command)
 
--- the texts of a crontab and of declarations are read, and joined with an anacrontab to the plan
+-- a crontab and declarations, whose texts these are, join with the anacrontab to the plan
 pub record IsPlanOf (text declarations : List ℕ) (anacrontab : JobTable) (plan : Declared)
     : Type 0 where
   pub table : Table
@@ -64,14 +63,13 @@ pub record IsPlanOf (text declarations : List ℕ) (anacrontab : JobTable) (plan
   pub declared : declared_by declarations ≡ Ok entries
   pub joined : joined table anacrontab entries ≡ Ok plan
 
--- The plan of another text of the table. Its commands are those of the plan, with their starts
--- shifted as the change says.
+-- another text of the table has the same commands, with their starts shifted as the change says
 pub record IsMoved (source : Source) (plan : Declared) (change : Change) (text : List ℕ)
     (moved : Declared) : Type 0 where
   pub read : IsPlanOf text source.declarations plan.anacrontab moved
   pub commands : AreMoved change plan.crontab.lines moved.crontab.lines
 
--- The plan of declarations in which that is pasted. It has the value, which the old one hasn't.
+-- Declarations with the pasted text have the value, which the old plan lacks.
 pub record IsEdited (source : Source) (plan : Declared) (member : Member) (pasted : List ℕ)
     (edited : Declared) : Type 0 where
   pub text : List ℕ
@@ -80,8 +78,7 @@ pub record IsEdited (source : Source) (plan : Declared) (member : Member) (paste
   pub has : HasValue edited member
   pub had : ¬ (HasValue plan member)
 
--- The plan is that of a table with the line of the change, or both; or of declarations in which
--- something is pasted.
+-- The changed plan is that of a table with one or two other lines, or that of other declarations.
 abbrev pub IsChanged : Source → Declared → Change → List ℕ → Declared → Type 0
 IsChanged source plan (Alone start) pasted changed =
     (text : List ℕ) × IsOtherLine source.table start.line text

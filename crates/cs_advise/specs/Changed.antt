@@ -1,4 +1,3 @@
--- A plan with another longest time of one job.
 use Rattle.std.specs.Prelude.{ℕ, set}
 use Rattle.cs_plan.specs.Job.{DeclaredJob}
 use Rattle.cs_plan.specs.Plan.{Declared, job_at}

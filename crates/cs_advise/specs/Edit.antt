@@ -11,22 +11,21 @@ use Rattle.cs_advise.specs.Replaced.{IsReplaced}
 use Rattle.cs_advise.specs.declared.change.Member.{Member}
 use Rattle.cs_advise.specs.declared.change.Member.TheVariants.{Capacity, Hours, Max, Mode}
 
--- a member, as JSON has it
+-- a member in JSON
 abbrev pub member_text : List ℕ → List ℕ → List ℕ
 member_text name value = codes "\"" ++ (name ++ (codes "\": " ++ value))
 
--- one JSON value in the text is another, or a member is added; all else stays
+-- one JSON value in the text is replaced, or a member is added; all else stays
 abbrev pub HasOther : List ℕ → List ℕ → List ℕ → List ℕ → Type 0
 HasOther old name value new =
     ((part : List ℕ) × IsSome (json_of part) × IsReplaced old part value new)
     ⊎ IsReplaced old [] (codes ", " ++ member_text name value) new
 
--- a control byte as a blank: in JSON none stands within a word or a text
+-- a control byte as a blank: JSON has none within a word or a text
 abbrev pub blank_control : ℕ → ℕ
 blank_control b = if nat_lt b 32 then 32 else b
 
--- A part of the declarations, an entry, has another value of a member. It is pasted in place of the
--- old one, on one line.
+-- An entry gets another value of a member, and is pasted on one line in place of the old entry.
 pub record IsEntryPut (declarations name value pasted text : List ℕ) : Type 0 where
   pub old : List ℕ
   pub new : List ℕ
@@ -34,13 +33,12 @@ pub record IsEntryPut (declarations name value pasted text : List ℕ) : Type 0 
   pub told : pasted ≡ map blank_control new
   pub put : IsReplaced declarations old pasted text
 
--- a member of all jobs together has another value, and is pasted as an object
+-- a member for all jobs gets another value; it is pasted as an object of its own
 abbrev pub IsMemberPut : List ℕ → List ℕ → List ℕ → List ℕ → List ℕ → Type 0
 IsMemberPut declarations name value pasted text =
     HasOther declarations name value text
     × (pasted ≡ codes "{" ++ (member_text name value ++ codes "}"))
 
--- how declarations write a mode
 abbrev pub mode_text : LockMode → List ℕ
 mode_text modes.Plain = codes "\"none\""
 mode_text modes.Skip = codes "\"skip\""
@@ -48,7 +46,7 @@ mode_text modes.Try = codes "\"try\""
 mode_text modes.Wait = codes "\"wait\""
 mode_text modes.Shared = codes "\"shared\""
 
--- and a number, and two
+-- numbers in JSON
 abbrev pub number_text : ℕ → List ℕ
 number_text n = compact_text (number (unsigned n))
 
@@ -67,7 +65,6 @@ IsPut (Capacity capacity) old pasted text =
 IsPut (Hours hours) old pasted text =
     IsMemberPut old (codes "hours") (pair_text hours.from hours.to) pasted text
 
--- the plan has that value
 abbrev pub HasValue : Declared → Member → Type 0
 HasValue d (Max job max) = (job_at d job).max ≡ max
 HasValue d (Mode job mode) = (job_at d job).mode ≡ mode

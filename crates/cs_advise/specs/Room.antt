@@ -9,24 +9,24 @@ use Rattle.cs_judge.specs.Called.{IsCalledSafe}
 use Rattle.cs_advise.specs.Names.{job_label}
 use Rattle.cs_advise.specs.declared.room.Room.{Room}
 
--- The plan is called safe with this longest time of the job, which isn't below the declared one,
--- and with all else as it is declared.
+-- The plan is called safe with `most` as the job's longest time, which is not below the declared
+-- one; all else is as declared.
 pub record IsRoom (plan : Declared) (room : Room) : Type 0 where
   pub declared : room.max ≡ (job_at plan room.job).max
   pub more : room.max ≤ room.most
   pub safe : IsCalledSafe (with_max plan room.job room.most)
 
--- by how many minutes a run may take longer than declared
+-- how many minutes longer than declared a run may take
 abbrev pub slack : Room → ℕ
 slack room = room.most - room.max
 
--- each job of the plan has its room, and those come first that have the least to spare
+-- each job of the plan has its room; those with the least slack come first
 pub record AreRooms (plan : Declared) (rooms : List Room) : Type 0 where
   pub jobs : IsPermutation (range_with_len 0 (length plan.jobs)) (map (λ room. room.job) rooms)
   pub each : All (IsRoom plan) rooms
   pub order : IsNonDecreasingBy slack rooms
 
--- `JOB: max MAX, safe up to MOST` and more, a line
+-- the line begins `JOB: max MAX, safe up to MOST`
 abbrev pub IsRoomLine : Declared → Room → List ℕ → Type 0
 IsRoomLine d room line = (more : List ℕ) × (line ≡ job_label d room.job
     ++ (codes ": max " ++ (decimal room.max

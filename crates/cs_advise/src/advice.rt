@@ -11,14 +11,12 @@ use cs_plan::Plan;
 use std::alloc::{AllocError, Global};
 use std::thread::Threads;
 
-/// Changes that make a plan safe, and a line for each of them.
 #[derive(Drop)]
 pub(crate) struct Advice {
     pub(crate) changes: Vec<Change>,
     pub(crate) text: Vec<u8>,
 }
 
-/// The line of a change, if the plan is called safe with it.
 fn safe_line<R: Threads + Sync>(
     rt: &R,
     alloc: Global,
@@ -39,8 +37,7 @@ fn safe_line<R: Threads + Sync>(
     Ok(Some(change_line(alloc, plan, &checked, change, pasted)?))
 }
 
-/// Those of some changes with which the plan is called safe, in order, until there are enough. The
-/// only error is out of memory.
+/// Judges the changes in order until `most` of them make the plan safe.
 pub(crate) fn told_changes<R: Threads + Sync>(
     rt: &R,
     alloc: Global,

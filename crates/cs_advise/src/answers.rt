@@ -25,26 +25,24 @@ use cs_verdict::{Breach, push_broken};
 use std::alloc::{AllocError, Global};
 use std::thread::Threads;
 
-/// What is asked of a plan.
+/// A question about a plan.
 #[derive(Clone, Copy)]
 pub enum Question {
     /// How long the runs of each job may take.
     Rooms,
-    /// Which changes make it safe, with starts that are shifted by so many minutes at most; so many
-    /// changes are enough, where there is a number.
+    /// Which changes make it safe: the most minutes by which a start is shifted, and how many
+    /// changes are enough, if it matters.
     Advice(u64, Option<u64>),
 }
 
-/// What is printed of a plan, and the status.
 #[derive(Drop)]
 struct Reply {
     status: Status,
     text: Vec<u8>,
-    /// Beside it.
+    /// For standard error.
     notes: Vec<u8>,
 }
 
-/// The line of what is broken first, and below it, where advice is asked, what is broken.
 fn broken_text(
     alloc: Global,
     plan: &Plan,
@@ -62,7 +60,6 @@ fn broken_text(
     Ok(text)
 }
 
-/// Changes of an unsafe plan that make it safe: those of the jobs of a breach, and of all jobs.
 fn advice_on<R: Threads + Sync>(
     rt: &R,
     alloc: Global,
@@ -94,8 +91,7 @@ fn advice_on<R: Threads + Sync>(
     told_changes(rt, alloc, source, plan, changes, most)
 }
 
-/// A line for each change that makes an unsafe plan safe, where advice is asked; or what it breaks
-/// first, where none was found or asked.
+/// The changes that make the plan safe; or the first breach, where none was found or asked for.
 fn told<R: Threads + Sync>(
     rt: &R,
     alloc: Global,
@@ -129,7 +125,6 @@ fn told<R: Threads + Sync>(
     })
 }
 
-/// What stands before the rooms of a safe plan.
 fn head_of(question: Question) -> &'static [u8]
     ensures { result.now ≡ head_of question }
 {
@@ -139,7 +134,6 @@ fn head_of(question: Question) -> &'static [u8]
     }
 }
 
-/// What is printed of a plan that was judged.
 fn printed<R: Threads + Sync>(
     rt: &R,
     alloc: Global,
@@ -182,7 +176,6 @@ fn printed<R: Threads + Sync>(
     }
 }
 
-/// What is answered of a plan that comes from these texts, beside the notes on it.
 fn advised<R: Threads + Sync>(
     rt: &R,
     alloc: Global,

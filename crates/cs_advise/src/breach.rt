@@ -5,7 +5,7 @@ use cs_plan::Plan;
 use cs_verdict::Breach;
 use std::alloc::{AllocError, Global};
 
-/// Adds a job, unless it is there or there are so many.
+/// Adds a job, unless it is there or `most` are.
 fn add(jobs: &mut Vec<u16>, job: u16, most: usize) -> Result<(), AllocError> {
     if jobs.len() < most && !jobs.as_slice().contains(&job) {
         jobs.push(job)?;
@@ -13,7 +13,6 @@ fn add(jobs: &mut Vec<u16>, job: u16, most: usize) -> Result<(), AllocError> {
     Ok(())
 }
 
-/// Adds the jobs of a group, if it is one.
 fn add_group(
     jobs: &mut Vec<u16>,
     plan: &Plan,
@@ -28,9 +27,9 @@ fn add_group(
     Ok(())
 }
 
-/// The jobs of which a change may mend a breach, in order: both that run together, a skipped one
-/// with its group, or those that weigh too much. They are the more the fewer there are: at most 16,
-/// and two at least. The only error is out of memory.
+/// The jobs whose change may mend a breach, in order: both that run together, a skipped one with
+/// its group, or those that weigh too much. There are 2 to 16, fewer for a plan of many jobs, which
+/// takes longer to judge.
 pub(crate) fn jobs_of(
     alloc: Global,
     plan: &Plan,

@@ -18,15 +18,14 @@ use cs_decl::{join, read_declarations};
 use cs_plan::{DeclError, Plan};
 use std::alloc::{AllocError, Global};
 
-/// A plan with a change.
 #[derive(Drop)]
 pub(crate) struct ChangedPlan {
     pub(crate) plan: Plan,
-    /// What is pasted into the declarations.
+    /// What is pasted into the declarations; empty for a change of the table.
     pub(crate) pasted: Vec<u8>,
 }
 
-/// The plan of the texts of a crontab and of declarations and the anacrontab, if they make one.
+/// None where the texts have a fault, or don't join with the plan's anacrontab.
 fn plan_of(
     alloc: Global,
     plan: &Plan,
@@ -53,7 +52,6 @@ fn plan_of(
     }
 }
 
-/// Whether the starts are shifted so.
 fn is_shifted(shift: Shift, old: &When, new: &When) -> bool
     ensures { IsTrue result → IsShifted shift old.now new.now }
 {
@@ -70,7 +68,6 @@ fn is_shifted(shift: Shift, old: &When, new: &When) -> bool
     }
 }
 
-/// How a change shifts the starts of a cron job.
 fn shift_of(change: &Change, job: usize) -> Shift
     ensures { result ≡ shift_of change.now job }
 {
@@ -85,7 +82,6 @@ fn shift_of(change: &Change, job: usize) -> Shift
     }
 }
 
-/// Whether a change moves a command so: it is the same, on the same line.
 fn is_moved_at(change: &Change, old: &[Line], new: &[Line], job: usize) -> bool
     ensures { IsTrue result → IsMovedLine (shift_of change.now job)
         (slice_index_or old.now job no_command) (slice_index_or new.now job no_command) }
@@ -101,7 +97,6 @@ fn is_moved_at(change: &Change, old: &[Line], new: &[Line], job: usize) -> bool
         && is_shifted(shift_of(change, job), old.when(), new.when())
 }
 
-/// Whether a change moves the commands so.
 fn are_moved(change: &Change, old: &[Line], new: &[Line]) -> bool
     ensures { IsTrue result → AreMoved change.now old.now new.now }
 {
@@ -116,7 +111,7 @@ fn are_moved(change: &Change, old: &[Line], new: &[Line]) -> bool
     true
 }
 
-/// The text of a table with another line of a cron job.
+/// None where the line isn't found.
 fn with_start(
     alloc: Global,
     plan: &Plan,
@@ -137,8 +132,7 @@ fn with_start(
     replaced(alloc, text, span.from, old, start.line.as_slice())
 }
 
-/// The plan of another text of the table, if that can be read, fits the declarations, and moves the
-/// commands as the change says.
+/// None where the table has a fault, doesn't fit the declarations, or moves other commands.
 fn moved_plan(
     alloc: Global,
     source: &Source,
@@ -161,7 +155,6 @@ fn moved_plan(
     }))
 }
 
-/// Whether a plan has that value.
 fn has_value(plan: &Plan, member: &Member) -> bool
     ensures { IsTrue result ↔ HasValue plan.now member.now }
 {
@@ -173,7 +166,7 @@ fn has_value(plan: &Plan, member: &Member) -> bool
     }
 }
 
-/// The plan of declarations with another value, if they can be read, fit the tables, and declare it.
+/// None where the declarations had the value, have a fault, or don't fit the tables.
 fn edited_plan(
     alloc: Global,
     source: &Source,
@@ -202,7 +195,7 @@ fn edited_plan(
     }))
 }
 
-/// The plan with a change, if it may be changed so. The only error is out of memory.
+/// The plan with a change; none where the change isn't possible.
 pub(crate) fn changed_plan(
     alloc: Global,
     source: &Source,

@@ -12,7 +12,6 @@ use cs_plan::{Plan, identifier_of};
 use serde_json::Value;
 use std::alloc::{AllocError, Global};
 
-/// Declarations with a change.
 #[derive(Drop)]
 pub(crate) struct Edit {
     /// What is pasted.
@@ -23,13 +22,13 @@ pub(crate) struct Edit {
 
 // ---- where something stands
 
-/// The object that a text is; none if it is no object. The only error is out of memory.
+/// The text as an object without members, if it is none.
 fn object_in<'v>(alloc: Global, text: &[u8], value: &'v Value) -> Result<Object<'v>, AllocError> {
     let span = trimmed(text, Span::between(0, text.len()));
     Object::new(alloc, text, (value, span))
 }
 
-/// Where the value of a member stands; where there is none, the end of the last member.
+/// The place of a member's value; the end of the last member, if there is no such member.
 fn place_of(alloc: Global, text: &[u8], name: &str) -> Result<Option<Span>, AllocError> {
     let Ok(value) = parsed(alloc, text)? else {
         return Ok(None);
@@ -59,7 +58,6 @@ fn is_of(plan: &Plan, job: usize, entry: &Object<'_>) -> bool {
     }
 }
 
-/// Where the entry of a job stands in declarations.
 fn entry_of(
     alloc: Global,
     plan: &Plan,
@@ -91,7 +89,6 @@ fn entry_of(
 
 // ---- what is put there
 
-/// A member, as JSON has it.
 fn member_text(alloc: Global, name: &str, value: &[u8]) -> Result<Vec<u8>, AllocError>
     ensures { IfOk result (λ text. text.items ≡ member_text name.now value.now) }
 {
@@ -102,7 +99,6 @@ fn member_text(alloc: Global, name: &str, value: &[u8]) -> Result<Vec<u8>, Alloc
     Ok(text)
 }
 
-/// The text with another value of a member, or with the member.
 fn with_value(
     alloc: Global,
     text: &[u8],
@@ -128,7 +124,6 @@ fn with_value(
     }
 }
 
-/// The text on one line: a control byte as a blank.
 fn on_one_line(alloc: Global, text: &[u8]) -> Result<Vec<u8>, AllocError>
     ensures { IfOk result (λ line. line.items ≡ map blank_control text.now) }
 {
@@ -139,7 +134,6 @@ fn on_one_line(alloc: Global, text: &[u8]) -> Result<Vec<u8>, AllocError>
     Ok(line)
 }
 
-/// Declarations in which the entry of a job has another value.
 fn entry_put(
     alloc: Global,
     plan: &Plan,
@@ -165,7 +159,6 @@ fn entry_put(
     }
 }
 
-/// Declarations that have another value of a member of all jobs together.
 fn member_put(
     alloc: Global,
     text: &[u8],
@@ -183,7 +176,7 @@ fn member_put(
     }
 }
 
-/// The declarations with another value of a member. The only error is out of memory.
+/// Declarations with another value of a member; none where it has no place.
 pub(crate) fn edit_of(
     alloc: Global,
     plan: &Plan,

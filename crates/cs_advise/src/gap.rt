@@ -1,13 +1,13 @@
-//! How close the windows of a job come to those of the others of its group. A window begins in the
-//! minute at which a command is due, and has as many minutes as the longest time of its job.
+//! The gaps between the windows of a job and those of the others of its group. A window begins at a
+//! due minute, and is as long as the longest time of its job.
 
 use cs_crontab::When;
 use cs_plan::{MAX_MINUTES, Plan};
 use cs_schedule::least_distance;
 
-/// How many minutes there are at least after a window of the first until one of the second that
-/// begins no sooner, below 0 where they meet; [`MAX_MINUTES`](cs_plan::MAX_MINUTES) stands for more
-/// too.
+/// The least number of minutes from the end of a window of the first to one of the second that
+/// begins no sooner than it, below 0 where they meet; [`MAX_MINUTES`](cs_plan::MAX_MINUTES) stands
+/// for more too.
 fn gap_after(plan: &Plan, first: u16, second: u16) -> i32 {
     let lines = plan.crontab().lines();
     let max = plan.job_at(first).max();
@@ -26,8 +26,8 @@ fn gap_after(plan: &Plan, first: u16, second: u16) -> i32 {
     }
 }
 
-/// The smallest gap between a window of the job and one of another command of its group, if there
-/// is one.
+/// The smallest gap between windows of the job and of other commands of its group; none without
+/// another one.
 pub(crate) fn gap_of(plan: &Plan, job: u16) -> Option<i32> {
     let group = plan.job_at(job).group()?;
     let crons = plan.crontab().lines().len() as u16;

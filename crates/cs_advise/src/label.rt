@@ -1,4 +1,3 @@
-//! How a text names the jobs of a plan.
 ghost use Rattle.std.specs.Prelude.{◌≡◌, ◌++◌, OnOk};
 ghost use Rattle.cs_advise.specs.Names.{job_label};
 

@@ -1,4 +1,3 @@
-//! Whether a command starts as another one does, but so many minutes later.
 ghost use Rattle.std.specs.Prelude.{◌≡◌, ◌+◌, ◌%◌, ◌<◌, ◌≤◌, ℕ, IsTrue, true, false};
 ghost use Rattle.cs_civil.specs.Calendar.{kind};
 ghost use Rattle.cs_schedule.specs.Numbers.{has};
@@ -9,7 +8,6 @@ ghost use Rattle.cs_advise.specs.Change.{IsLater};
 use cs_civil::MINUTES_OF_DAY;
 use cs_crontab::{Field, MinuteSet, Part, Schedule};
 
-/// Whether both fields begin with `*` or neither does, and they have the same numbers.
 fn are_alike(one: &Field, other: &Field) -> bool
     ensures star { IsTrue result → one.now.star ≡ other.now.star }
     ensures numbers { IsTrue result
@@ -23,7 +21,6 @@ fn are_alike(one: &Field, other: &Field) -> bool
     one.begins_with_star() == other.begins_with_star()
 }
 
-/// Whether both are due on the same days.
 #[tactic(auto, using(crate::proofs::Shifts::same_days))]
 fn are_days_alike(one: &Schedule, other: &Schedule) -> bool
     ensures { IsTrue result
@@ -34,7 +31,6 @@ fn are_days_alike(one: &Schedule, other: &Schedule) -> bool
         && are_alike(one.field(Part::Dow), other.field(Part::Dow))
 }
 
-/// Whether a field has each number from this one to that.
 fn has_all(field: &Field, first: u8, last: u8) -> bool
     requires { last < 255 }
     ensures { IsTrue result → (n : ℕ) → first ≤ n → n ≤ last → has field.now.numbers n ≡ true }
@@ -47,7 +43,6 @@ fn has_all(field: &Field, first: u8, last: u8) -> bool
     true
 }
 
-/// Whether it is due on each day.
 #[tactic(auto, using(crate::proofs::Shifts::each_day))]
 pub(crate) fn is_daily(schedule: &Schedule) -> bool
     ensures { IsTrue result → (d : ℕ) → is_day_due schedule.now (kind d) ≡ true }
@@ -57,7 +52,7 @@ pub(crate) fn is_daily(schedule: &Schedule) -> bool
         && has_all(schedule.field(Part::Dow), 0, 6)
 }
 
-/// Whether each minute of a day is in the one set as the minute so many later is in the other.
+/// Whether each minute of a day is in one set exactly if the minute so much later is in the other.
 fn are_later(one: &MinuteSet, other: &MinuteSet, minutes: u16) -> bool
     requires { minutes < MINUTES_OF_DAY }
     ensures { IsTrue result → (m : ℕ) → m < MINUTES_OF_DAY
@@ -71,7 +66,7 @@ fn are_later(one: &MinuteSet, other: &MinuteSet, minutes: u16) -> bool
     true
 }
 
-/// Whether none of the minutes comes over a midnight, so many later.
+/// Whether no minute of the set passes midnight when it is shifted.
 fn stays(set: &MinuteSet, minutes: u16) -> bool
     requires { minutes < MINUTES_OF_DAY }
     ensures { IsTrue result → (m : ℕ) → m < MINUTES_OF_DAY → MINUTES_OF_DAY ≤ m + minutes
@@ -85,8 +80,8 @@ fn stays(set: &MinuteSet, minutes: u16) -> bool
     true
 }
 
-/// Whether each start of the one is so many minutes before one of the other, and the other has no
-/// more. A start that comes over a midnight is followed where each day has it.
+/// Whether the starts of the other are those of the one, so many minutes later. Starts may pass
+/// midnight only if the command is due each day.
 pub(crate) fn is_later(one: &Schedule, other: &Schedule, minutes: u16) -> bool
     ensures { IsTrue result → IsLater minutes (At one.now) (At other.now) }
 {

@@ -1,5 +1,4 @@
-//! Helps an operator with a plan: changes that make an unsafe plan safe, and how long the runs of a
-//! safe one may take.
+//! Finds changes that make an unsafe plan safe, and the `room` of each job of a safe one.
 #![tactic(auto)]
 
 mod advice;

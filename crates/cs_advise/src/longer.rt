@@ -1,4 +1,3 @@
-//! A plan with another longest time of one job.
 ghost use Rattle.std.specs.Prelude.{◌≡◌, ◌<◌, ◌≤◌, IfOk, length, set};
 ghost use Rattle.cs_plan.specs.declared.limits.TheConstants.{MAX_MINUTES};
 ghost use Rattle.cs_advise.specs.Changed.{with_max};
@@ -7,7 +6,6 @@ use cs_civil::Sequence;
 use cs_plan::{Job, Plan};
 use std::alloc::{AllocError, Global};
 
-/// Copies jobs with another one at a place, which is one of them.
 fn with_job_at(
     alloc: Global,
     jobs: &[Job],
@@ -22,8 +20,7 @@ fn with_job_at(
     Ok(Sequence::from_vec(changed))
 }
 
-/// Copies the plan with another longest time of one of its jobs, in minutes from 1 to
-/// [`MAX_MINUTES`](cs_decl::MAX_MINUTES). The only error is out of memory.
+/// Copies the plan with another longest time of a job, in minutes.
 pub(crate) fn with_max(
     alloc: Global,
     plan: &Plan,

@@ -1,4 +1,4 @@
-//! Where the lines come from that advice names.
+//! The places of the lines that advice names.
 
 use crate::change::{Change, Member};
 use cs_counterexample::Shown;
@@ -6,8 +6,7 @@ use cs_place::{Place, push_places_told};
 use cs_plan::Plan;
 use std::alloc::{AllocError, Global};
 
-/// A note for each line that is one of these jobs and has a place. The only error is want of
-/// memory.
+/// A note on the place of each of these jobs that has one.
 fn job_places(
     alloc: Global,
     plan: &Plan,
@@ -20,7 +19,7 @@ fn job_places(
     Ok(text)
 }
 
-/// A note for each line that changes name and that has a place. The only error is out of memory.
+/// A note on the place of each line that the changes name.
 pub(crate) fn changed_places(
     alloc: Global,
     plan: &Plan,
@@ -43,8 +42,7 @@ pub(crate) fn changed_places(
     job_places(alloc, plan, places, jobs.as_slice())
 }
 
-/// A note for each line that what is broken names and that has a place. The only error is want of
-/// memory.
+/// A note on the place of each line that the breach names.
 pub(crate) fn shown_places(
     alloc: Global,
     plan: &Plan,

@@ -1,5 +1,4 @@
-//! How long the runs of a job may take while the plan stays safe, and how close its windows come to
-//! those of the others of its group.
+//! How long the runs of a job may take while the plan stays safe.
 ghost use Rattle.std.specs.Prelude.{◌≡◌, ◌≤◌, ◌<◌, ◌+◌, IfOk, length, true};
 ghost use Rattle.cs_advise.specs.Changed.{with_max};
 ghost use Rattle.cs_plan.specs.declared.limits.TheConstants.{MAX_MINUTES};
@@ -16,24 +15,22 @@ use std::thread::Threads;
 /// The first stride up from a declared longest time, in minutes.
 const FIRST_STRIDE: u16 = 4;
 
-/// How many times as long the next stride is.
+/// Each stride is so many times as long as the one before.
 const GROWTH: u16 = 8;
 
 /// What a job of a safe plan has to spare, in minutes.
 #[derive(Clone, Copy)]
 pub(crate) struct Room {
-    /// The number of the job.
     pub(crate) job: u16,
-    /// The longest time that is declared.
+    /// The declared longest time.
     pub(crate) max: u16,
-    /// The greatest longest time that was judged safe, all else as it is declared.
+    /// The greatest longest time that was judged safe, all else as declared.
     pub(crate) most: u16,
-    /// The smallest gap, as it is declared, between a window of the job and one of another command
-    /// of its group: none where there is no other, and of a job of the anacrontab.
+    /// The smallest gap between declared windows of the job and of others of its group; none
+    /// without another one, and for anacron jobs.
     pub(crate) gap: Option<i32>,
 }
 
-/// Whether the plan is called safe with another longest time of a job.
 fn is_safe_with<R: Threads + Sync>(
     rt: &R,
     alloc: Global,
@@ -49,8 +46,7 @@ fn is_safe_with<R: Threads + Sync>(
     is_called_safe(rt, alloc, &changed)
 }
 
-/// A longest time that is safe, and one that isn't known to be, by strides from a safe one, short
-/// of the greatest.
+/// A safe longest time and a greater one that isn't known to be safe, by strides up from `max`.
 fn by_strides<R: Threads + Sync>(
     rt: &R,
     alloc: Global,
@@ -78,8 +74,7 @@ fn by_strides<R: Threads + Sync>(
     Ok((low, MAX_MINUTES))
 }
 
-/// The longest time at the end of a safe stretch, by halving: `low` is safe, and `high` isn't known
-/// to be, as the minute above the answer then.
+/// Halves the interval: `low` is safe, and `high` isn't known to be.
 fn halved<R: Threads + Sync>(
     rt: &R,
     alloc: Global,
@@ -105,8 +100,8 @@ fn halved<R: Threads + Sync>(
     Ok(low)
 }
 
-/// The room of a job of a safe plan: the longest time that may be declared is tried first, since
-/// many jobs have it, and then strides from the declared one, of which the last is halved.
+/// Tries the greatest longest time first, since many jobs have it, and then strides from the
+/// declared one, the last of which is halved.
 #[tactic(auto, using(crate::proofs::Own::safe_with_own))]
 pub(crate) fn room_of<R: Threads + Sync>(
     rt: &R,

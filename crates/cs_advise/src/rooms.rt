@@ -13,7 +13,7 @@ use rayon::prelude::*;
 use std::alloc::{AllocError, Global};
 use std::thread::Threads;
 
-/// The room of each job, in the order of jobs. Several threads look for them.
+/// In the order of jobs, by several threads.
 fn each_room<R: Threads + Sync>(rt: &R, alloc: Global, plan: &Plan) -> Result<Vec<Room>, AllocError>
     requires { IsCalledSafe plan.now }
     ensures jobs { IfOk result
@@ -34,7 +34,6 @@ fn each_room<R: Threads + Sync>(rt: &R, alloc: Global, plan: &Plan) -> Result<Ve
         .collect::<Result<Vec<Room>, AllocError>>(rt, alloc)?
 }
 
-/// The room of each job of a safe plan, first those that have the least to spare.
 fn rooms_of<R: Threads + Sync>(rt: &R, alloc: Global, plan: &Plan) -> Result<Vec<Room>, AllocError>
     requires { IsCalledSafe plan.now }
     ensures { IfOk result (λ rooms. AreRooms plan.now rooms.items) }
@@ -44,8 +43,8 @@ fn rooms_of<R: Threads + Sync>(rt: &R, alloc: Global, plan: &Plan) -> Result<Vec
     Ok(rooms)
 }
 
-/// What stands after the numbers of a line: ` (the most)` where that is so, and `, gap GAP`: `meet`
-/// in place of the minutes where windows overlap, and `-` where there is no other command.
+/// The end of a line: ` (the most)` where that is so, and `, gap GAP` with `meet` where windows
+/// overlap and `-` where no other command is in the group.
 fn end_text(alloc: Global, room: Room) -> Result<String, AllocError> {
     let limit = if room.most == MAX_MINUTES {
         " (the most)"
@@ -62,7 +61,6 @@ fn end_text(alloc: Global, room: Room) -> Result<String, AllocError> {
     }
 }
 
-/// `JOB: max MAX, safe up to MOST, gap GAP`, a line.
 fn room_line(alloc: Global, plan: &Plan, room: Room) -> Result<Vec<u8>, AllocError>
     ensures { IfOk result (λ line. IsRoomLine plan.now room line.items) }
 {
@@ -77,8 +75,8 @@ fn room_line(alloc: Global, plan: &Plan, room: Room) -> Result<Vec<u8>, AllocErr
     Ok(line)
 }
 
-/// A line for the room of each job of a safe plan, after what stands before them: first those that
-/// have the least to spare, and among those the first job first. The only error is out of memory.
+/// A line for each job of a safe plan after the head: first those with the least slack, and among
+/// these in the order of jobs.
 pub(crate) fn rooms_text<R: Threads + Sync>(
     rt: &R,
     alloc: Global,

@@ -1,5 +1,5 @@
-//! Where changes that make a plan safe are looked for. Nothing here is relied on: each change is
-//! judged again before it is printed.
+//! The search for changes that make a plan safe. Nothing here is relied on: each change is judged
+//! again before it is printed.
 
 use crate::change::{Change, Member, Shift, Start};
 use crate::changing::changed_plan;
@@ -12,10 +12,9 @@ use cs_plan::{MAX_CAPACITY, Plan};
 use std::alloc::{AllocError, Global};
 use std::thread::Threads;
 
-/// The most minutes that a start is shifted by: less than a day.
+/// The most minutes by which a start is shifted: less than a day.
 const MOST_MINUTES: u64 = 1_439;
 
-/// What changes are tried on.
 #[derive(Drop)]
 pub(crate) struct Search<'a, R> {
     pub(crate) rt: &'a R,
@@ -26,14 +25,14 @@ pub(crate) struct Search<'a, R> {
     pub(crate) most: usize,
 }
 
-/// Starts are shifted by each of so many minutes first, then by every fifth minute; and where that
-/// helps, by those before it.
+/// Starts are shifted by each of so many minutes first, then by every fifth; where that helps, by
+/// those just before it.
 const FINE: u16 = 5;
 
-/// The minutes by which both of two starts are shifted.
+/// The minutes by which each of two starts is shifted.
 const STEPS: [u16; 10] = [5, 10, 15, 20, 30, 40, 50, 60, 90, 120];
 
-/// Whether a start of the job is among the changes, later or earlier as this shift.
+/// Whether a start of the job in this direction is among the changes.
 fn is_found(changes: &[Change], job: u16, shift: Shift) -> bool {
     for change in changes {
         if let Change::Start(start) = change {
@@ -63,7 +62,6 @@ enum Tried {
 }
 
 impl<R: Threads + Sync> Search<'_, R> {
-    /// Whether the plan is called safe with a change.
     fn is_safe(&self, change: &Change) -> Result<bool, AllocError> {
         match changed_plan(self.alloc, self.source, self.plan, change)? {
             Some(changed) => is_called_safe(self.rt, self.alloc, &changed.plan),
@@ -71,8 +69,8 @@ impl<R: Threads + Sync> Search<'_, R> {
         }
     }
 
-    /// Adds the starts of two jobs later or earlier, if fields can say them and the plan is safe with
-    /// them, and says whether it is.
+    /// Adds shifted starts of two jobs, if fields can express them and the plan is safe with them;
+    /// returns whether it is.
     fn add_both(
         &self,
         changes: &mut Vec<Change>,
@@ -94,7 +92,7 @@ impl<R: Threads + Sync> Search<'_, R> {
         Ok(is_safe)
     }
 
-    /// Adds the starts of the first two jobs with which the plan is safe, nearest first: at most
+    /// Adds the nearest shifted starts of the first two jobs with which the plan is safe. At most
     /// 400 are judged.
     fn add_pair(
         &self,
@@ -105,7 +103,7 @@ impl<R: Threads + Sync> Search<'_, R> {
         let [one, other, ..] = jobs else {
             return Ok(());
         };
-        // by 10 to 240 minutes together, of which the first has each step, in each of four ways
+        // by 10 to 240 minutes together, with each step of the first job, in each of four ways
         for number in 0..231 * 40u16 {
             let minutes = STEPS[usize::from(number / 4 % 10)];
             let others = (10 + number / 40).saturating_sub(minutes);
@@ -128,7 +126,6 @@ impl<R: Threads + Sync> Search<'_, R> {
         Ok(())
     }
 
-    /// The start of a job later or earlier, if the plan is safe with it.
     fn safe_start(&self, job: u16, shift: Shift) -> Result<Option<Change>, AllocError> {
         let Some(start) = shifted_start(self.alloc, self.source, self.plan, job, shift)? else {
             return Ok(None);
@@ -138,8 +135,8 @@ impl<R: Threads + Sync> Search<'_, R> {
         Ok(if is_safe { Some(change) } else { None })
     }
 
-    /// Adds the start of a job later or earlier, unless it has one, if the plan is safe with it; or
-    /// one by up to four minutes less, if it is with that too.
+    /// Adds the shifted start of a job, if it has none in this direction and the plan is safe with
+    /// it; preferably one shifted by up to four minutes less.
     fn add_start(
         &self,
         changes: &mut Vec<Change>,
@@ -164,7 +161,6 @@ impl<R: Threads + Sync> Search<'_, R> {
         Ok(())
     }
 
-    /// Adds the starts of the jobs so many minutes later and earlier, for those that have none yet.
     fn add_starts(
         &self,
         changes: &mut Vec<Change>,
@@ -179,7 +175,7 @@ impl<R: Threads + Sync> Search<'_, R> {
         Ok(())
     }
 
-    /// Another value of a member, if there can be one.
+    /// None for a value that can't be.
     fn with_value(&self, tried: Tried, value: u16) -> Option<Member> {
         let hours = self.plan.hours();
         let (from, to) = match tried {
@@ -195,8 +191,8 @@ impl<R: Threads + Sync> Search<'_, R> {
         }
     }
 
-    /// Adds the value of a member with which the plan is safe that is nearest to one with which it
-    /// isn't, by halving what is between both, unless there are enough changes.
+    /// Halves between a safe value of a member and an unsafe one, and adds the last safe one,
+    /// unless there are enough changes.
     fn add_value(
         &self,
         changes: &mut Vec<Change>,
@@ -232,8 +228,7 @@ impl<R: Threads + Sync> Search<'_, R> {
         Ok(())
     }
 
-    /// Adds the modes of a job with which the plan is safe, but for its own, until there are enough
-    /// changes.
+    /// Adds the other modes of a job with which the plan is safe, until there are enough changes.
     fn add_modes(&self, changes: &mut Vec<Change>, job: u16) -> Result<(), AllocError> {
         for mode in [Mode::Wait, Mode::Skip, Mode::Try, Mode::Shared] {
             let change = Change::Member(Member::Mode(job, mode));
@@ -245,7 +240,6 @@ impl<R: Threads + Sync> Search<'_, R> {
         Ok(())
     }
 
-    /// Adds the declarations of jobs with which the plan is safe.
     fn add_declared(&self, changes: &mut Vec<Change>, jobs: &[u16]) -> Result<(), AllocError> {
         for job in jobs {
             self.add_value(changes, Tried::Max(*job), 0, self.plan.job_at(*job).max())?;
@@ -256,9 +250,8 @@ impl<R: Threads + Sync> Search<'_, R> {
         Ok(())
     }
 
-    /// Adds changes with which the plan is safe, of these jobs and of all together, nearest first,
-    /// until there are enough; where there is none, one of two starts. The only error is out of
-    /// memory.
+    /// Adds changes with which the plan is safe, of these jobs and for all jobs, nearest first,
+    /// until there are enough; if there is none, one of two starts.
     pub(crate) fn add_changes(
         &self,
         changes: &mut Vec<Change>,

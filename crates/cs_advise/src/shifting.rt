@@ -11,7 +11,7 @@ use cs_plan::Plan;
 use cs_table::text::{first_line, skip_blanks, word};
 use std::alloc::{AllocError, Global};
 
-/// Adds numbers, a bit each, with commas between them; `*` where they are as many as there can be.
+/// Adds the numbers of a bit set with commas between them; `*` if there are `most`.
 fn push_numbers(
     alloc: Global,
     text: &mut Vec<u8>,
@@ -34,14 +34,14 @@ fn push_numbers(
     Ok(())
 }
 
-/// The minutes and the hours of a shifted schedule, a bit each; none where no two lists give its
-/// times, or where a day field is restricted and a time comes over a midnight.
+/// The minutes and the hours of a shifted schedule as bit sets; none where no pair of lists gives
+/// its times, or where a start passes midnight and the command isn't due each day.
 fn shifted_times(schedule: &Schedule, shift: Shift) -> Option<(u64, u64)> {
     let is_daily = is_daily(schedule);
     let mut minutes = 0u64;
     let mut hours = 0u64;
     let mut times = 0u32;
-    // so many minutes earlier are the others of a day later
+    // so many minutes earlier is the rest of a day later
     let by = if shift.is_later {
         shift.minutes
     } else {
@@ -67,8 +67,8 @@ fn shifted_times(schedule: &Schedule, shift: Shift) -> Option<(u64, u64)> {
     Some((minutes, hours))
 }
 
-/// Adds what stands after the hour of a line: its day fields and its command. Those of `@daily`
-/// and its like are written as fields, each `*` or its first number.
+/// Adds the rest of the line after its hour; `@daily` and its like as day fields, each `*` or its
+/// first number.
 fn push_rest(
     alloc: Global,
     text: &mut Vec<u8>,
@@ -90,7 +90,7 @@ fn push_rest(
     text.extend_from_slice(rest)
 }
 
-/// Where the line of that number stands, counted from 1; the end of the text where there is none.
+/// The place of the line of that number; the end of the text without one.
 pub(crate) fn line_span(text: &[u8], number: u32) -> Span {
     let mut rest = text;
     for at in 1..=number {
@@ -106,7 +106,7 @@ pub(crate) fn line_span(text: &[u8], number: u32) -> Span {
     Span::of(text.len(), 0)
 }
 
-/// The start of a job later or earlier, if fields can say it. The only error is out of memory.
+/// The start of a job later or earlier, if fields can express it.
 pub(crate) fn shifted_start(
     alloc: Global,
     source: &Source,

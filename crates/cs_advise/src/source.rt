@@ -1,10 +1,9 @@
 use cs_civil::Bytes;
 
-/// The texts that a plan is read from.
+/// The texts from which a plan was read.
 #[derive(Drop)]
 pub(crate) struct Source {
-    /// The text of the crontab.
+    /// The crontab.
     pub(crate) table: Bytes,
-    /// The text of the declarations.
     pub(crate) declarations: Bytes,
 }

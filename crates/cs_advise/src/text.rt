@@ -1,11 +1,10 @@
-//! A text with another part.
+//! Texts with one part replaced.
 ghost use Rattle.std.specs.Prelude.{◌≡◌, ◌++◌, IfOk, IfSome};
 ghost use Rattle.cs_advise.specs.Replaced.{IsReplaced};
 
 use cs_diagnostics::Span;
 use std::alloc::{AllocError, Global};
 
-/// Three texts, one after the other.
 pub(crate) fn joined(
     alloc: Global,
     front: &[u8],
@@ -20,7 +19,7 @@ pub(crate) fn joined(
     Ok(text)
 }
 
-/// The text with another part, which stood at a place.
+/// Replaces the part at a place; none if another text is there.
 pub(crate) fn replaced(
     alloc: Global,
     text: &[u8],

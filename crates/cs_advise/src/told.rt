@@ -10,12 +10,11 @@ use cs_judge::reach_in;
 use cs_plan::Plan;
 use std::alloc::{AllocError, Global};
 
-/// What so many minutes are called.
 fn unit(minutes: u16) -> &'static str {
     if minutes == 1 { "minute" } else { "minutes" }
 }
 
-/// What a mode is, how cron keeps it, and what becomes of a run.
+/// The words on a mode: how cron keeps it, and what becomes of a run.
 fn about(mode: Mode) -> &'static str {
     match mode {
         Mode::Plain => ", mode none, so that its runs take no lock: ",
@@ -36,8 +35,8 @@ fn about(mode: Mode) -> &'static str {
     }
 }
 
-/// The words on another value of a member. Those on mode wait say how late a run may start and end, by
-/// the reach of the job.
+/// The words on another value; for mode wait, how late a run may start and end, by the reach of the
+/// job.
 fn words_on(
     alloc: Global,
     plan: &Plan,
@@ -79,7 +78,6 @@ fn words_on(
     Ok(text)
 }
 
-/// Adds a line of a table as a terminal may show it.
 fn push_seen(text: &mut Vec<u8>, line: &[u8]) -> Result<(), AllocError>
     ensures { OnOk result (text.new.items ≡ text.old.items ++ map seen line.now) }
 {
@@ -93,7 +91,6 @@ fn push_seen(text: &mut Vec<u8>, line: &[u8]) -> Result<(), AllocError>
     Ok(())
 }
 
-/// The line of another start, after other words: how much later or earlier it is.
 fn start_line(
     alloc: Global,
     front: &[u8],
@@ -118,8 +115,7 @@ fn start_line(
     Ok(line)
 }
 
-/// The line of a change, or the lines, with what is pasted into declarations, of a plan that was
-/// accepted with it. The only error is out of memory.
+/// The line of a change, or the two lines, for a plan that was judged safe with it.
 pub(crate) fn change_line(
     alloc: Global,
     plan: &Plan,

@@ -169,7 +169,7 @@ line_takes line x e =
       says = entry_takes text x (after_stops is_blank line) h.1;
     }
 
--- the text of a line that says something begins after its blanks
+-- in a line that says something, the text begins after the blanks
 pub line_text : (line : List ℕ) (x : Entry) (is : Says line x) → after is_blank line ≡ is.text
 line_text line x is = ap (after is_blank) is.parts ∙ after_again is_blank is.indent is.text is.blank (text_stops is.text x is.says)
 

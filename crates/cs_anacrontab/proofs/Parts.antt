@@ -79,7 +79,6 @@ number_again highest word n is =
 abbrev pub begins_job : ℕ → Bool
 begins_job b = nat_eq b 64 || is_digit b
 
--- a text that begins so
 abbrev pub Begins : List ℕ → Type 0
 Begins text = (b : ℕ) × (more : List ℕ) × (text ≡ b ∷ more) × (begins_job b ≡ true)
 
@@ -209,7 +208,6 @@ word_again text word rest is =
     ap word_at is.parts
     ∙ rw (some_to (word ++ (is.gap ++ rest)) (joined_some word (is.gap ++ rest) is.solid.1), front_again is_solid word (is.gap ++ rest) is.solid.0 stop, after_again is_solid word (is.gap ++ rest) is.solid.0 stop, after_again is_blank is.gap rest is.blank.0 is.stops) refl
 
--- the text behind a word
 pub word_behind : (text word rest : List ℕ) → HasWord text word rest → behind_word text ≡ rest
 word_behind text word rest is =
     let stop = gap_stops is.gap rest is.blank in

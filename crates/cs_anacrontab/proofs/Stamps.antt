@@ -6,13 +6,12 @@ use Rattle.cs_civil.proofs.Dates.{has_number, year_bound}
 use Rattle.cs_civil.proofs.Texts.{one_day}
 use Rattle.cs_anacrontab.specs.Stamp.{date_digits, HasDigits, IsStampText}
 
--- the date of a day has a text
 pub no_such_date : (text : List ℕ) (n : ℕ) → (IsDateText text → ⊥) → n ≤ last_day → text ≡ date_bytes (date_of n) → ⊥
 no_such_date text n none le is =
     let h = has_number n in
     none (date_of n, record { year = year_bound n le; month = h.month; dom = h.dom }, is)
 
--- the hyphens make no difference
+-- hyphens make no difference
 hyphened : (d e : CivilDate) → date_digits d ≡ date_digits e → date_bytes d ≡ date_bytes e
 hyphened d e h = cc
 
@@ -25,7 +24,6 @@ without_newline d e h = cc
 one_longer : (d e : CivilDate) → date_digits d ≡ date_digits e ++ 10 ∷ [] → ⊥
 one_longer d e h = cc
 
--- a text is the stamp of one day
 one_stamp : (text : List ℕ) (n m : ℕ) → IsStampText text n → IsStampText text m → n ≡ m
 one_stamp text n m (inl a) (inl b) = same_day n m (sym a ∙ b)
 one_stamp text n m (inr a) (inr b) = same_day n m (without_newline (date_of n) (date_of m) (sym a ∙ b))

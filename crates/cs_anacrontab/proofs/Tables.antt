@@ -133,7 +133,7 @@ within n table line wrong e = by_reason (fails n table line wrong e)
     by_reason (inr (inl (period, delay, identifier, command, before, held, same, says, is))) = twice_within line period delay identifier command wrong says is
     by_reason (inr (inr (many, at))) = whole_within faults.TooManyJobs line wrong (after is_blank line) (indent_within line) (whole_again faults.TooManyJobs line wrong at)
 
--- what is wrong with the identifier of a line is a part of the line
+-- a wrong identifier is a part of its line
 pub named_within : (line : List ℕ) (period : Period) (delay : ℕ) (identifier command : List ℕ) (wrong : Wrong JobFault) → Says line (Job period delay identifier command) → wrong ≡ at_front faults.TwiceNamed (from_identifier line) identifier → IsWithin line wrong
 named_within line period delay identifier command wrong says is =
     twice_within line period delay identifier command wrong says (is ∙ ap (λ (l : List ℕ). at_front faults.TwiceNamed l identifier) (from_identifier-is line period delay identifier command says))

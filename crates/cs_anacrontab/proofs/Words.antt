@@ -10,8 +10,6 @@ use Rattle.cs_table.specs.Text.{front, after, is_digit, decimal, is_nothing}
 use Rattle.cs_table.proofs.Spans.{some_to, front_again, after_again, parts_joined, front_passes}
 use Rattle.cs_anacrontab.specs.Reading.{number_of}
 
--- ---- digits
-
 pub after_whole : (p : ℕ → Bool) (w : List ℕ) → list_all p w ≡ true → after p w ≡ []
 after_whole p w all = ap (after p) (sym (append-nil w)) ∙ after_again p w [] all tt
 
@@ -52,8 +50,6 @@ module _ (high : ℕ) (w : List ℕ) where
       let whole = whole_front is_digit w none in
       let within : decimal w ≤ high = rw whole at low in
       rw (some_to w some, all_front is_digit w none, le-ltb high (decimal w) within) (ap (λ (l : List ℕ). Some (decimal l)) whole)
-
--- ---- UTF-8
 
 pub utf8_ok : {X E : Type 0} (bs : List ℕ) (P : X → Type 0) (Q : E → Type 0) (r : Result X E) → MatchResult r (λ s. P s × IsUtf8 bs) (λ e. ¬ (IsUtf8 bs) × Q e) → is_ok r ≡ is_utf8 bs
 utf8_ok bs P Q (Ok s) is = sym (is_utf8-from_IsUtf8 bs is.1)

@@ -1,17 +1,17 @@
--- The content of an anacrontab.
+-- What an anacrontab says.
 use Rattle.std.specs.Prelude.{ℕ, List, [], ◌∷◌, ◌++◌, length, All, AllPairs, ◌<◌, ◌≤◌, ◌≢◌}
 use Rattle.cs_table.specs.Setting.{SettingLine}
 use Rattle.cs_anacrontab.specs.declared.period.Period.{Period}
 use Rattle.cs_anacrontab.specs.declared.period.Period.TheVariants.{Days, Monthly}
 use Rattle.cs_anacrontab.specs.declared.limits.TheConstants.{MAX_JOBS, MAX_PERIOD, MAX_DELAY}
 
--- the content of one line
+-- what one line says
 pub data Entry : Type 0 where
   Nothing : Entry
   Setting : (name value : List ℕ) → Entry
   Job : (period : Period) (delay : ℕ) (identifier command : List ℕ) → Entry
 
--- a job, and the number of its line, counted from 1
+-- lines are counted from 1
 pub record JobLine : Type 0 where
   pub number : ℕ
   pub period : Period
@@ -26,7 +26,7 @@ pub record Table : Type 0 where
 abbrev pub no_lines : Table
 no_lines = record { settings = []; lines = [] }
 
--- a table with a setting, a job, or the content of a line at its end
+-- a setting, a job, or what a line says comes to the end of the table
 abbrev pub with_setting : ℕ → List ℕ → List ℕ → Table → Table
 with_setting number name value table = record {
   settings = table.settings ++ (record { number = number; name = name; value = value } ∷ []);
@@ -53,21 +53,19 @@ with_entry number (Setting name value) table = with_setting number name value ta
 with_entry number (Job period delay identifier command) table =
     with_job number period delay identifier command table
 
--- no two jobs have one identifier
 abbrev pub AreDistinct : List JobLine → Type 0
 AreDistinct lines = AllPairs (λ x y. x.identifier ≢ y.identifier) lines
 
--- a number of days from 1 to the longest period, or a month
+-- a number of days up to the longest period, or a month
 abbrev pub IsPossiblePeriod : Period → Type 0
 IsPossiblePeriod (Days n) = (1 ≤ n) × (n ≤ MAX_PERIOD)
 IsPossiblePeriod Monthly = Unit {0}
 
--- the period and the delay are in their ranges
 pub record IsPossible (job : JobLine) : Type 0 where
   pub period : IsPossiblePeriod job.period
   pub delay : job.delay ≤ MAX_DELAY
 
--- There are not too many jobs, in range and with different identifiers, and all is in line order.
+-- not too many jobs, in range and with different identifiers; jobs and settings in order of line
 pub record IsOrdered (table : Table) : Type 0 where
   pub few : length table.lines ≤ MAX_JOBS
   pub possible : All IsPossible table.lines

@@ -25,18 +25,18 @@ pub record HasNext (text word rest : List ℕ) : Type 0 where
   pub blank : list_all is_blank gap ≡ true
   pub stops : StopsAt is_blank rest
 
--- The word is no period: an unknown word after `@`, or no number of days.
+-- the word is no period: it is unknown after `@`, or no number of days in range
 abbrev pub PeriodFails : List ℕ → JobFault → Type 0
 PeriodFails word fault =
     ((period : Period) → IsPeriod word period → ⊥)
     × (((begins_with 64 word ≡ true) × (fault ≡ faults.UnknownWord))
     ⊎ ((begins_with 64 word ≡ false) × (fault ≡ faults.BadPeriod)))
 
--- The text ends where a part should begin.
+-- the text ends where a part should begin
 abbrev pub IsMissing : List ℕ → Wrong JobFault → Type 0
 IsMissing text wrong = (text ≡ []) × (wrong ≡ at_end faults.MissingField)
 
--- After the delay, the identifier is missing or is none, or the command is missing.
+-- after the delay, the identifier is missing or isn't one, or the command is missing
 abbrev pub IdentifierFails : List ℕ → Wrong JobFault → Type 0
 IdentifierFails text wrong =
     IsMissing text wrong
@@ -44,7 +44,7 @@ IdentifierFails text wrong =
     × ((¬ (IsIdentifier word) × (wrong ≡ at_front faults.BadIdentifier text word))
     ⊎ (IsIdentifier word × IsMissing rest wrong)))
 
--- After the period, the delay is missing or is none, or what follows has the fault.
+-- after the period, the delay is missing or isn't one, or what follows has the fault
 abbrev pub DelayFails : List ℕ → Wrong JobFault → Type 0
 DelayFails text wrong =
     IsMissing text wrong
@@ -52,7 +52,7 @@ DelayFails text wrong =
     × ((((n : ℕ) → IsNumber MAX_DELAY word n → ⊥) × (wrong ≡ at_front faults.BadDelay text word))
     ⊎ ((n : ℕ) × IsNumber MAX_DELAY word n × IdentifierFails rest wrong)))
 
--- The first word is no period, or what follows has the fault.
+-- the first word is no period, or what follows has the fault
 abbrev pub JobFails : List ℕ → Wrong JobFault → Type 0
 JobFails text wrong = (word rest : List ℕ) × HasNext text word rest
     × (((fault : JobFault) × PeriodFails word fault × (wrong ≡ at_front fault text word))
@@ -62,8 +62,8 @@ abbrev pub SettingFails : List ℕ → Wrong JobFault → Type 0
 SettingFails text wrong =
     ((name value : List ℕ) → IsSetting text name value → ⊥) × (wrong ≡ whole faults.BadSetting text)
 
--- A text without leading blanks, and no comment, ends with a backslash; or, by its first byte, it
--- is a setting or a job with the fault.
+-- a text without leading blanks that is no comment ends with a backslash; or the first byte decides
+-- whether it is a setting or a job with the fault
 abbrev pub TextFails : List ℕ → Wrong JobFault → Type 0
 TextFails [] wrong = ⊥
 TextFails (b ∷ bs) wrong =
@@ -73,7 +73,7 @@ TextFails (b ∷ bs) wrong =
     × (((begins_setting b ≡ true) × SettingFails (b ∷ bs) wrong)
     ⊎ ((begins_setting b ≡ false) × JobFails (b ∷ bs) wrong))))
 
--- The line is too long, or holds a zero byte, or its text after leading blanks has the fault.
+-- the line is too long, or holds a zero byte, or its text after leading blanks has the fault
 abbrev pub LineFails : List ℕ → Wrong JobFault → Type 0
 LineFails line wrong =
     ((MAX_LINE < length line) × (wrong ≡ whole faults.TooLong (drop MAX_LINE line)))
@@ -82,8 +82,7 @@ LineFails line wrong =
     × ((indent text : List ℕ) × (line ≡ indent ++ text) × (list_all is_blank indent ≡ true)
     × StopsAt is_blank text × TextFails text wrong)))
 
--- a job with the identifier of one of those before it: that identifier, which follows the delay, is
--- wrong
+-- a job with the identifier of an earlier one; that identifier, after the delay, is wrong
 abbrev pub IsTwiceNamed : Table → List ℕ → Wrong JobFault → Type 0
 IsTwiceNamed table line wrong =
     (period : Period) × (delay : ℕ) × (identifier command : List ℕ) × (before : JobLine)
@@ -91,35 +90,34 @@ IsTwiceNamed table line wrong =
     × (job : Says line (Job period delay identifier command))
     × (wrong ≡ at_front faults.TwiceNamed job.says.1.behind_delay identifier)
 
--- a job with an identifier of its own after as many as there may be
+-- a job with an identifier of its own, one more than there may be
 abbrev pub IsOneTooMany : Table → List ℕ → Type 0
 IsOneTooMany table line =
     (period : Period) × (delay : ℕ) × (identifier command : List ℕ)
     × Says line (Job period delay identifier command)
     × All (λ before. before.identifier ≢ identifier) table.lines × (MAX_JOBS ≤ length table.lines)
 
--- A line has a fault; after all its own faults come an identifier that stood before and a job above
--- the limit, in this order.
+-- the line has a fault; after all its own faults come a repeated identifier, then a job above the
+-- limit
 abbrev pub Fails : Table → List ℕ → Wrong JobFault → Type 0
 Fails table line wrong = LineFails line wrong
     ⊎ (IsTwiceNamed table line wrong
     ⊎ (IsOneTooMany table line × IsWhole faults.TooManyJobs line wrong))
 
--- An anacrontab is read line by line.
 abbrev pub anacrontab : Kind Table JobFault
 anacrontab = record { empty = no_lines; too_long = faults.TooLong; Adds = Adds; Fails = Fails }
 
--- The text is written as this table.
+-- the text is written as this table
 abbrev pub IsAnacrontab : List ℕ → Table → Type 0
 IsAnacrontab text table = IsTable anacrontab text table
 
--- A text is written as a table, or it has a fault.
+-- a text is written as a table, or it has a fault
 abbrev pub Meaning : Type 0
 Meaning = tables.Meaning Table JobFault
 
 abbrev pub Means : List ℕ → Meaning → Type 0
 Means text meaning = tables.Means anacrontab text meaning
 
--- The fault that a call answered is the text's, unless memory ran out.
+-- the fault that a call answered is the text's, unless memory ran out
 abbrev pub IsFaultOf : List ℕ → TableFault JobFault → Type 0
 IsFaultOf text fault = tables.IsFaultOf anacrontab text fault

@@ -16,7 +16,7 @@ pub record IsNumber (highest : ℕ) (text : List ℕ) (n : ℕ) : Type 0 where
   pub value : n ≡ decimal text
   pub high : n ≤ highest
 
--- some days: a number from 1 on, `@daily`, which is 1, or `@weekly`, which is 7
+-- days: a number from 1 on, `@daily`, which is 1, or `@weekly`, which is 7
 abbrev pub IsPeriod : List ℕ → Period → Type 0
 IsPeriod text (Days n) = (IsNumber MAX_PERIOD text n × (1 ≤ n))
     ⊎ (((text ≡ codes "@daily") × (n ≡ 1)) ⊎ ((text ≡ codes "@weekly") × (n ≡ 7)))
@@ -53,12 +53,12 @@ pub record IsJob (text : List ℕ) (period : Period) (delay : ℕ)
   pub identifier_is : IsIdentifier identifier
   pub some : command ≢ []
 
--- The last byte is a backslash.
+-- the last byte is a backslash
 abbrev pub IsContinued : List ℕ → Type 0
 IsContinued text = (front : List ℕ) × (text ≡ front ++ (92 ∷ []))
 
--- A text without leading blanks: nothing if it is empty or a comment. A setting begins with a
--- letter, `_` or a quote (this profile).
+-- a text without leading blanks says nothing if it is empty or a comment; a setting begins with a
+-- letter, `_` or a quote (this profile)
 abbrev pub TextSays : List ℕ → Entry → Type 0
 TextSays text Nothing = (text ≡ []) ⊎ ((comment : List ℕ) × (text ≡ 35 ∷ comment))
 TextSays text (Setting name value) =
@@ -66,7 +66,7 @@ TextSays text (Setting name value) =
 TextSays text (Job period delay identifier command) =
     ¬ (IsContinued text) × IsJob text period delay identifier command
 
--- the content of a line, whose leading blanks are ignored
+-- what a line says; leading blanks don't count
 pub record Says (line : List ℕ) (entry : Entry) : Type 0 where
   pub short : length line ≤ MAX_LINE
   pub clean : list_any (λ b. nat_eq b 0) line ≡ false
@@ -76,14 +76,14 @@ pub record Says (line : List ℕ) (entry : Entry) : Type 0 where
   pub blank : list_all is_blank indent ≡ true
   pub says : TextSays text entry
 
--- A job has an identifier of its own, and there is room for it in the table.
+-- a job has an identifier of its own, and there is room for it in the table
 abbrev pub HasRoom : Table → Entry → Type 0
 HasRoom table Nothing = Unit {0}
 HasRoom table (Setting name value) = Unit {0}
 HasRoom table (Job period delay identifier command) =
     All (λ before. before.identifier ≢ identifier) table.lines × (length table.lines < MAX_JOBS)
 
--- The line with this number makes one table into the other.
+-- the line with this number makes one table into the other
 abbrev pub Adds : ℕ → Table → List ℕ → Table → Type 0
 Adds number table line more = (entry : Entry) × Says line entry × HasRoom table entry
     × (more ≡ with_entry number entry table)

@@ -1,9 +1,8 @@
--- The faults of an anacrontab as printed.
+-- The faults of an anacrontab as printed: number and name.
 use Rattle.std.specs.Prelude.{ℕ, List, codes}
 use Rattle.cs_anacrontab.specs.declared.fault.JobFault.{JobFault}
 use Rattle.cs_anacrontab.specs.declared.fault.JobFault.TheVariants as faults
 
--- number and name
 abbrev pub fault_text : JobFault → List ℕ
 fault_text faults.TooLong = codes "1 TooLong"
 fault_text faults.NulByte = codes "2 NulByte"

@@ -15,14 +15,13 @@ use Rattle.cs_anacrontab.specs.declared.fault.JobFault.{JobFault}
 use Rattle.cs_anacrontab.specs.declared.fault.JobFault.TheVariants as faults
 use Rattle.cs_anacrontab.specs.Anacrontab.{Entry, Nothing, Setting, Job}
 
--- the number that a word of digits is, up to the highest
+-- a number that is all of the word, in digits, up to the highest
 unfoldable pub number_of : ℕ → List ℕ → Option ℕ
 number_of high word =
     if is_nothing word || not (list_all is_digit word) then None
     else if nat_lt high (decimal word) then None
     else Some (decimal word)
 
--- what the word after `@` stands for
 abbrev pub period_of_word : List ℕ → Option Period
 period_of_word word =
     if bytes_eq word (codes "daily") then Some (Days 1)
@@ -34,7 +33,7 @@ abbrev pub or_fault : {A : Type 0} → JobFault → Option A → Result A JobFau
 or_fault fault None = Err fault
 or_fault fault (Some x) = Ok x
 
--- some days, and not none
+-- no days are no period
 abbrev pub days_of : Option ℕ → Option Period
 days_of None = None
 days_of (Some n) = if nat_lt n 1 then None else Some (Days n)
@@ -45,7 +44,7 @@ period_of (b ∷ bs) =
     if b == 64 then or_fault faults.UnknownWord (period_of_word bs)
     else or_fault faults.BadPeriod (days_of (number_of MAX_PERIOD (b ∷ bs)))
 
--- `.` and `..`
+-- `.` and `..` name folders
 abbrev pub is_folder : List ℕ → Bool
 is_folder word = bytes_eq word (codes ".") || bytes_eq word (codes "..")
 
@@ -54,7 +53,6 @@ is_identifier word =
     if nat_lt MAX_IDENTIFIER (length word) || list_any (λ b. b == 47) word then false
     else not (is_folder word) && is_utf8 word
 
--- the text behind the first word and the blanks after it
 abbrev pub behind_word : List ℕ → List ℕ
 behind_word text = after is_blank (after is_solid text)
 
@@ -70,7 +68,6 @@ completed period delay text identifier command =
     else if is_nothing command then Err (at_end faults.MissingField)
     else Ok (Job period delay identifier command)
 
--- a period, a delay, an identifier and a command
 unfoldable pub job_of : List ℕ → Result Entry (Wrong JobFault)
 job_of text = do
   first ← word_at text
@@ -85,11 +82,10 @@ abbrev pub set : List ℕ → Option (List ℕ × List ℕ) → Result Entry (Wr
 set text None = Err (whole faults.BadSetting text)
 set text (Some setting) = Ok (Setting setting.0 setting.1)
 
--- whether the last byte is a backslash
 abbrev pub is_continued : List ℕ → Bool
 is_continued text = ends_with nat_eq text (92 ∷ [])
 
--- the content of a line without its leading blanks
+-- what a line says after its leading blanks
 unfoldable pub entry_of : List ℕ → Result Entry (Wrong JobFault)
 entry_of [] = Ok Nothing
 entry_of (b ∷ bs) =

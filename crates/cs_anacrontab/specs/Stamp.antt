@@ -15,6 +15,5 @@ stamp_text n = date_digits (date_of n) ++ 10 ∷ []
 abbrev pub HasDigits : List ℕ → CivilDate → Type 0
 HasDigits text d = (text ≡ date_digits d) ⊎ (text ≡ date_digits d ++ 10 ∷ [])
 
--- the same of the day's date
 abbrev pub IsStampText : List ℕ → ℕ → Type 0
 IsStampText text n = HasDigits text (date_of n)

@@ -11,16 +11,15 @@ use Rattle.cs_table.specs.declared.fault.Wrong.{Wrong}
 use Rattle.cs_table.specs.Text.{after, is_blank}
 use Rattle.cs_table.specs.Wrong.{◌>>=◌, at_front, whole}
 
--- whether a job has that identifier
 abbrev pub is_named : List ℕ → List JobLine → Bool
 is_named identifier lines = list_any (λ job. bytes_eq job.identifier identifier) lines
 
--- the text of a line from the third word on
+-- the text of a line from its third word on
 abbrev pub from_identifier : List ℕ → List ℕ
 from_identifier line = behind_word (behind_word (after is_blank line))
 
--- the table with the entry of a line at its end, or the fault of a repeated identifier, or that of a
--- job above the limit
+-- a line comes to the end of the table, unless its identifier is repeated, or else its job is above
+-- the limit
 abbrev pub put : ℕ → List ℕ → Table → Entry → Result Table (Wrong JobFault)
 put number line table Nothing = Ok table
 put number line table (Setting name value) = Ok (with_entry number (Setting name value) table)

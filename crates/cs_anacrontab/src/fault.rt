@@ -7,7 +7,7 @@ use thiserror::Error;
 #[derive(Clone, Copy, Debug, PartialEq, Eq, Error)]
 #[error("{}", self.text())]
 pub enum JobFault {
-    /// The table or the line exceeds [`MAX_TABLE`](cs_table::MAX_TABLE) or
+    /// The table is longer than [`MAX_TABLE`](cs_table::MAX_TABLE), or the line longer than
     /// [`MAX_LINE`](cs_table::MAX_LINE).
     TooLong,
     /// The line holds a zero byte.
@@ -22,8 +22,8 @@ pub enum JobFault {
     BadPeriod,
     /// The delay is not a number of minutes from 0 to [`MAX_DELAY`](crate::MAX_DELAY).
     BadDelay,
-    /// The identifier exceeds [`MAX_IDENTIFIER`](crate::MAX_IDENTIFIER), isn't UTF-8, contains `/`,
-    /// or is `.` or `..`.
+    /// The identifier is longer than [`MAX_IDENTIFIER`](crate::MAX_IDENTIFIER), isn't UTF-8,
+    /// contains `/`, or is `.` or `..`.
     BadIdentifier,
     /// A line above has the same identifier.
     TwiceNamed,

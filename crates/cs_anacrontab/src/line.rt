@@ -17,10 +17,10 @@ use cs_table::setting::{begins_setting, read_setting};
 use cs_table::text::{digits, has_nul, skip_blanks, word};
 use cs_table::{MAX_LINE, Wrong, marked};
 
-/// The content of a line.
+/// What a line says.
 #[derive(Drop)]
 pub enum Entry<'a> {
-    /// Nothing: it is empty, blank or a comment.
+    /// It is empty, blank or a comment.
     Nothing,
     /// A name and its value.
     Setting(&'a [u8], &'a [u8]),
@@ -28,7 +28,6 @@ pub enum Entry<'a> {
     Job(Period, u32, &'a [u8], &'a [u8]),
 }
 
-/// The number that the word is in digits, up to the highest.
 #[tactic(auto, unfolding(crate::specs::Reading::number_of))]
 fn number(highest: u32, word: &[u8]) -> Option<u32>
     requires { highest < 1_000_000 }
@@ -45,7 +44,6 @@ fn number(highest: u32, word: &[u8]) -> Option<u32>
     Some(value)
 }
 
-/// The period of the days in the word.
 fn days(word: &[u8]) -> Option<Period>
     ensures { result ≡ days_of (number_of MAX_PERIOD word.now) }
 {
@@ -53,7 +51,8 @@ fn days(word: &[u8]) -> Option<Period>
     Some(Period::Days(count))
 }
 
-/// Reads the period that a word is, in days or by its name.
+/// Reads a period: a number of days, or `@` and a name. [`UnknownWord`](JobFault::UnknownWord) for
+/// another name, [`BadPeriod`](JobFault::BadPeriod) for no such number.
 #[tactic(auto, unfolding(crate::specs::Reading::period_of))]
 pub fn read_period(word: &[u8]) -> Result<Period, JobFault>
     ensures { result ≡ period_of word.now }
@@ -65,7 +64,7 @@ pub fn read_period(word: &[u8]) -> Result<Period, JobFault>
     }
 }
 
-/// Reads the delay that a word is, in minutes.
+/// Reads a delay, in minutes. [`BadDelay`](JobFault::BadDelay) if the word is none.
 pub fn read_delay(word: &[u8]) -> Result<u32, JobFault>
     ensures { result ≡ or_fault BadDelay (number_of MAX_DELAY word.now) }
 {
@@ -78,7 +77,6 @@ fn is_utf8(bytes: &[u8]) -> bool
     str::from_utf8(bytes).is_ok()
 }
 
-/// `.` and `..` name folders.
 fn is_folder(word: &[u8]) -> bool
     ensures { result ≡ is_folder word.now }
 {
@@ -91,7 +89,7 @@ fn has_slash(word: &[u8]) -> bool
     word.iter().any(|byte| *byte == b'/')
 }
 
-/// Checks whether a word may name a stamp file.
+/// Whether a word may name a stamp file.
 #[tactic(auto, unfolding(crate::specs::Reading::is_identifier))]
 pub fn is_identifier(word: &[u8]) -> bool
     ensures { result ≡ is_identifier word.now }
@@ -102,7 +100,6 @@ pub fn is_identifier(word: &[u8]) -> bool
     !is_folder(word) && is_utf8(word)
 }
 
-/// The text behind the first word and the blanks after it.
 fn behind_word(text: &[u8]) -> &[u8]
     ensures { result.now ≡ behind_word text.now }
 {
@@ -110,7 +107,7 @@ fn behind_word(text: &[u8]) -> &[u8]
     skip_blanks(rest)
 }
 
-/// The text of a line from the third word on.
+/// The text of a line from its third word on.
 pub(crate) fn from_identifier(line: &[u8]) -> &[u8]
     ensures { result.now ≡ from_identifier line.now }
 {
@@ -129,14 +126,12 @@ fn next_word(text: &[u8]) -> Result<(&[u8], &[u8]), Wrong<JobFault>>
     Ok((word, skip_blanks(rest)))
 }
 
-/// The period that the word at the front of a text is.
 fn placed_period(text: &[u8], word: &[u8]) -> Result<Period, Wrong<JobFault>>
     ensures { result ≡ marked (length text.now) (length word.now) (period_of word.now) }
 {
     marked(text.len(), word.len(), read_period(word))
 }
 
-/// The delay that the word at the front of a text is.
 fn placed_delay(text: &[u8], word: &[u8]) -> Result<u32, Wrong<JobFault>>
     ensures { result ≡ marked (length text.now) (length word.now)
         (or_fault BadDelay (number_of MAX_DELAY word.now)) }
@@ -144,7 +139,7 @@ fn placed_delay(text: &[u8], word: &[u8]) -> Result<u32, Wrong<JobFault>>
     marked(text.len(), word.len(), read_delay(word))
 }
 
-/// A job with a good identifier, which begins the text, and a command.
+/// The identifier begins the text.
 fn completed<'a>(
     period: Period,
     delay: u32,
@@ -164,7 +159,6 @@ fn completed<'a>(
     Ok(Entry::Job(period, delay, identifier, command))
 }
 
-/// A job: its period, its delay, its identifier and its command.
 #[tactic(auto, unfolding(crate::specs::Reading::job_of))]
 fn read_job(text: &[u8]) -> Result<Entry<'_>, Wrong<JobFault>>
     ensures { Gives entry_seen result (job_of text.now) }
@@ -177,14 +171,12 @@ fn read_job(text: &[u8]) -> Result<Entry<'_>, Wrong<JobFault>>
     completed(period, delay, last, identifier, command)
 }
 
-/// Whether the text ends with a backslash.
 fn is_continued(text: &[u8]) -> bool
     ensures { result ≡ is_continued text.now }
 {
     text.ends_with(b"\\")
 }
 
-/// The content of a line without its leading blanks.
 #[tactic(auto, unfolding(crate::specs::Reading::entry_of))]
 fn read_entry(text: &[u8]) -> Result<Entry<'_>, Wrong<JobFault>>
     ensures { Gives entry_seen result (entry_of text.now) }
@@ -213,7 +205,7 @@ fn content(line: &[u8]) -> Result<Entry<'_>, Wrong<JobFault>>
     read_entry(skip_blanks(line))
 }
 
-/// Reads the content of a line, or returns its first fault from left to right.
+/// Reads what a line says, or returns its first fault from left to right.
 pub fn read_line(line: &[u8]) -> Result<Entry<'_>, Wrong<JobFault>>
     ensures says { IfOk result (λ entry. Says line.now (entry_seen entry)) }
     ensures fails { IfErr result (LineFails line.now) }

@@ -27,7 +27,7 @@ impl Model for DayCount {
 }
 
 impl DayCount {
-    /// Returns the count, or `None` if it is 0 or above [`MAX_PERIOD`](crate::MAX_PERIOD).
+    /// Returns the count; `None` if it is 0 or above [`MAX_PERIOD`](crate::MAX_PERIOD).
     pub fn new(number: u32) -> Option<DayCount>
         ensures in_range { IsSome result ↔ ((1 ≤ number) × (number ≤ MAX_PERIOD)) }
         ensures value { IfSome result (λ count. count ≡ number) }
@@ -56,7 +56,7 @@ pub enum Period {
     Monthly,
 }
 
-/// The period of the word after `@`.
+/// `None` unless the word is `daily`, `weekly` or `monthly`.
 pub(crate) fn word_period(word: &[u8]) -> Option<Period>
     ensures { result ≡ period_of_word word.now }
 {
@@ -71,7 +71,7 @@ pub(crate) fn word_period(word: &[u8]) -> Option<Period>
     }
 }
 
-/// Checks whether a job is due today, its stamp being the day of its last run (anacron(8)).
+/// Whether a job is due today; its stamp is the day of its last run (anacron(8)).
 ///
 /// It is due without a stamp, with one later than today (this profile), and once the period has
 /// passed since its stamp: [`Monthly`](Period::Monthly) once the month or the year is another.
@@ -90,7 +90,6 @@ pub fn is_due(period: Period, stamp: Option<Day>, today: Day) -> bool
     }
 }
 
-/// Whether the dates of the two days are of the same year and month.
 fn is_same_month(one: Day, other: Day) -> bool
     ensures { result ≡ is_same_month one other }
 {

@@ -16,7 +16,6 @@ use cs_table::{Draft, Setting, Wrong, read_table};
 use std::alloc::{AllocError, Global};
 use std::marker::Model;
 
-/// The lines read so far.
 #[derive(Drop)]
 struct AnacrontabDraft {
     variables: Sequence<Setting>,
@@ -125,11 +124,11 @@ fn read_bytes(alloc: Global, bytes: &[u8]) -> Result<Anacrontab, AnacronFault>
 
 /// Reads an anacrontab (anacrontab(5)), or returns its first fault. Memory may run out.
 ///
-/// The table's length comes first; in a line its length, a zero byte and a final backslash, then
-/// its words from left to right, then [`TwiceNamed`](JobFault::TwiceNamed), then
+/// The table's length comes first; in a line its length, then a zero byte and a final backslash,
+/// then its words from left to right, then [`TwiceNamed`](JobFault::TwiceNamed), then
 /// [`TooManyJobs`](JobFault::TooManyJobs).
 pub fn read_anacrontab(alloc: Global, bytes: &[u8]) -> Result<Anacrontab, AnacronFault>
-    // The table that is read is written in the bytes.
+    // The table is written in the bytes.
     ensures table { IfOk result (IsAnacrontab bytes.now) }
     // err: the first fault; `OutOfMemory` only if memory runs out
     ensures fault { IfErr result (IsFaultOf bytes.now) }

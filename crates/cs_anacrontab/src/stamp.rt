@@ -24,7 +24,6 @@ pub fn read_stamp(text: &[u8]) -> Option<Day>
     read_date(date_part(text))
 }
 
-/// The text without its newline.
 fn date_part(text: &[u8]) -> &[u8]
     ensures { (d : CivilDate) → (result.now ≡ date_digits d) ↔ HasDigits text.now d }
 {
@@ -34,7 +33,6 @@ fn date_part(text: &[u8]) -> &[u8]
     }
 }
 
-/// The day of a date `YYYYMMDD`.
 #[tactic(auto, using(crate::proofs::Stamps::no_such_date))]
 fn read_date(text: &[u8]) -> Option<Day>
     ensures value { IfSome result (λ n. (n ≤ last_day) × (text.now ≡ date_digits (date_of n))) }
@@ -43,7 +41,7 @@ fn read_date(text: &[u8]) -> Option<Day>
     Gregorian::read(&with_hyphens(text)?)?.day()
 }
 
-/// `YYYY-MM-DD` of `YYYYMMDD`, if the text has that length.
+/// `None` if the text has another length than `YYYYMMDD`.
 fn with_hyphens(text: &[u8]) -> Option<[u8; 10]>
     ensures same { IfSome result
         (λ hyphened. (d : CivilDate) → (hyphened ≡ date_bytes d) ↔ (text.now ≡ date_digits d)) }

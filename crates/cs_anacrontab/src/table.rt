@@ -117,7 +117,7 @@ fn copy_jobs(alloc: Global, jobs: &[Job]) -> Result<Sequence<Job>, AllocError>
 }
 
 /// An anacrontab: its settings, and at most [`MAX_JOBS`](crate::MAX_JOBS) jobs with different
-/// identifiers, each in order of line.
+/// identifiers.
 #[derive(Drop)]
 pub struct Anacrontab {
     variables: Sequence<Setting>,
@@ -157,7 +157,7 @@ impl Anacrontab {
         }
     }
 
-    /// Copies the anacrontab. The only error is out of memory.
+    /// Copies the anacrontab.
     pub fn copy(&self, alloc: Global) -> Result<Anacrontab, AllocError>
         ensures { IfOk result (λ table. table ≡ self.now) }
     {
@@ -186,8 +186,7 @@ impl Anacrontab {
         self.jobs.as_slice()
     }
 
-    /// Returns the environment of the job on that line, like [`env_of`](cs_table::env_of). The
-    /// only error is out of memory.
+    /// Returns the environment of the job on that line, like [`env_of`](cs_table::env_of).
     pub fn env_of(&self, alloc: Global, line: u32) -> Result<Sequence<(Bytes, Bytes)>, AllocError>
         ensures names { IfOk result
             (λ env. map (λ v. v.0) env ≡ first_places (names_of (above line self.now.settings))) }

@@ -25,7 +25,6 @@ list_all_digits : (bs : List ℕ) → list_all is_ascii_digit bs ≡ all_ascii_d
 list_all_digits [] = refl
 list_all_digits (b ∷ bs) = ap (λ t. is_ascii_digit b && t) (list_all_digits bs)
 
--- what the two tests of a number say
 holds : (bs : List ℕ) → 0 < length bs → digits_value 10 bs < 2 ^ 64 → (nat_lt 0 (length bs) && nat_lt (digits_value 10 bs) (2 ^ 64)) ≡ true
 holds bs some fits = simp (lt-ltb 0 (length bs) some, lt-ltb (digits_value 10 bs) (2 ^ 64) fits) refl
 
@@ -34,7 +33,6 @@ fails true true h = absurd (h (refl, refl))
 fails true false h = refl
 fails false y h = refl
 
--- digits that are read as a number
 pub number_read : {E : Type 0} (bs : List ℕ) (r : Result ℕ E) (n : ℕ) → ParsesUnsigned 64 10 bs r → r ≡ Ok n → list_all is_ascii_digit bs ≡ true → number_of bs ≡ Some n
 number_read bs r n h e d =
     let k = parse_digits (numerals_by_value _ tells_all_ascii_digits) 64 bs r h (sym (list_all_digits bs) ∙ d) in
@@ -42,7 +40,6 @@ number_read bs r n h e d =
     let t = holds bs kk.0.0 kk.0.1 in
     rw (d, t) (ap Some (sym kk.1))
 
--- digits that are no number
 pub number_refused : {E : Type 0} (bs : List ℕ) (r : Result ℕ E) (e : E) → ParsesUnsigned 64 10 bs r → r ≡ Err e → list_all is_ascii_digit bs ≡ true → number_of bs ≡ None
 number_refused bs r x h e d =
     let k = parse_digits (numerals_by_value _ tells_all_ascii_digits) 64 bs r h (sym (list_all_digits bs) ∙ d) in
@@ -77,7 +74,6 @@ pub asked_none : (o : Option (Text × List Row)) → option_map (λ p. p.1) o �
 asked_none None e = refl
 asked_none (Some p) e = absurd (cc)
 
--- the name that was met is that of the rows
 pub name_met : {Z : Type 0} (o : Option (Box SubCommand Z)) → option_map (λ b. (out-SubCommand (box_value b)).name.now) o ≡ option_map (λ p. p.0) (subcommand_rows o)
 name_met None = refl
 name_met (Some b) = refl
@@ -115,7 +111,6 @@ with_next xs i d below old new some is added =
     let one : suc i ≡ i + 1 = omega arith in
     subst (λ j. with_all old (drop i xs) ≡ with_all new (drop j xs)) one (after_one xs i d old new some (added ∙ ap (with_subcommand old) is))
 
--- a sum is no less than what it has so far
 grows : {X : Type 0} (f : X → ℕ) (xs : List X) (n : ℕ) → n ≤ fold (λ a x. a + f x) n xs
 grows f [] n = omega arith
 grows f (x ∷ xs) n = let rest : n + f x ≤ fold (λ a y. a + f y) (n + f x) xs = grows f xs (n + f x) in omega arith
@@ -132,7 +127,6 @@ more_than_one f g (y ∷ ys) (suc i) n d all some more is =
     let rest : i < length ys = omega arith in
     more_than_one f g ys i n d all rest more is
 
--- of the command line all is known
 pub is_known : is_simple_and_free cronsafe_app ≡ true
 unfolding all_subcommands cronsafe_app top_app
 is_known = refl

@@ -21,7 +21,7 @@ use Rattle.cs_args.specs.declared.request.UsageFault.{UsageFault}
 use Rattle.cs_args.specs.declared.table.Subcommand.{Subcommand}
 use Rattle.cs_args.specs.declared.table.Subcommand.TheVariants as subcommand
 
--- a word that may be left out, one that is required, and one or more
+-- an optional word, a required one, and one or more
 abbrev pub optional_word : String → Rule
 optional_word id = new_rule (codes id)
 
@@ -125,24 +125,22 @@ inputs =
     codes "anacrontab" ∷ codes "declarations" ∷ codes "update" ∷ codes "max-from" ∷ codes "zone" ∷
     codes "system" ∷ codes "user" ∷ []
 
--- `cronsafe`: it has a version, and wants a subcommand, of which `help` is its own
+-- `cronsafe`: it has a version, and requires a subcommand; its `help` is not that of `clap`
 unfoldable pub top_app : App
 top_app = on_top (λ s.
     record s { disable_help_subcommand = true; subcommand_required = true; has_version = true })
     (new_app (codes "cronsafe"))
 
--- a command line with one subcommand more
+-- the command line of one subcommand
 abbrev pub app_of_subcommand : Subcommand → App
 app_of_subcommand s = fold with_rule (new_app (name_of s)) (rules_of s)
 
 abbrev pub with_all : App → List Subcommand → App
 with_all = fold (λ app s. with_subcommand app (app_of_subcommand s).top)
 
--- the command line of `cronsafe`
 unfoldable pub cronsafe_app : App
 cronsafe_app = with_all top_app all_subcommands
 
--- the subcommand of a name
 abbrev pub named_among : List Subcommand → Text → Option Subcommand
 named_among subcommands name = find (λ s. bytes_eq (name_of s) name) subcommands
 
@@ -178,15 +176,15 @@ optional_number id rows = option_and_then number_of (first_of id rows)
 abbrev pub number_or : ℕ → Text → List Row → ℕ
 number_or absent id rows = unwrap_or (optional_number id rows) absent
 
--- one of these arguments is given, and is no number
+-- one of these arguments is given, and isn't a number
 abbrev pub has_no_number : List Text → List Row → Bool
 has_no_number ids rows =
     list_any (λ id. is_given id rows && is_none (optional_number id rows)) ids
 
--- the values of these arguments name standard input more than once
 abbrev pub is_dash : Text → Bool
 is_dash path = bytes_eq path (45 ∷ [])
 
+-- the values of these arguments name standard input more than once
 abbrev pub is_twice_standard : List Text → List Row → Bool
 is_twice_standard ids rows = nat_lt 1 (sum_by (λ id. count_by is_dash (values_in id rows)) ids)
 
@@ -222,7 +220,7 @@ abbrev pub is_wrong : Subcommand → List Row → Bool
 is_wrong s rows =
     lacks s rows || (has_no_number numbers rows || (has_unknown_name rows || is_misfit rows))
 
--- what they ask, where they aren't: of a day with that longest time where none is given
+-- what words that aren't wrong ask: of a day with this longest time where none is given
 abbrev pub day_in : ℕ → List Row → Asked
 day_in absent rows = record {
   table = value_or [] (codes "TABLE") rows;
@@ -347,15 +345,15 @@ AsksHelp words = IsAmong DisplayHelp (fault_of cronsafe_app words) ⊎ Asks word
 abbrev pub AsksVersion : List Text → Type 0
 AsksVersion words = IsAmong DisplayVersion (fault_of cronsafe_app words)
 
--- the words are no call: `clap` refuses them, or they are wrong
+-- the words aren't a call: `clap` refuses them, or they are wrong
 abbrev pub IsNoCall : List Text → Type 0
 IsNoCall words =
     ((fault : ErrorKind) × IsAmong fault (fault_of cronsafe_app words) × (fault ≢ DisplayHelp)
     × (fault ≢ DisplayVersion))
     ⊎ ((fault_of cronsafe_app words ≡ []) × (asked_of words ≡ None))
 
--- the words ask what is answered; help and the version are answered where they are asked for, and a
--- fault of the words where there is one
+-- the answer to words: what they ask; help or the version where these are asked for; or a fault of
+-- the words where there is one
 abbrev pub Parses : List Text → Result Request UsageFault → Type 0
 Parses words (Ok r) = Asks words (asking r)
 Parses words (Err (Help text)) = AsksHelp words
@@ -363,8 +361,8 @@ Parses words (Err Version) = AsksVersion words
 Parses words (Err (NoCall text)) = IsNoCall words
 Parses words (Err OutOfMemory) = ⊤
 
--- what is asked is answered: by what is asked, by help where that is asked, and by a fault of the
--- words where nothing is
+-- the answer to what is asked: the request, help where that is asked, or a fault of the words where
+-- nothing is
 abbrev pub Answers : Option Asking → Result Request UsageFault → Type 0
 Answers wanted (Ok r) = wanted ≡ Some (asking r)
 Answers wanted (Err (Help text)) = wanted ≡ Some HelpAsking
@@ -372,7 +370,6 @@ Answers wanted (Err Version) = ⊥
 Answers wanted (Err (NoCall text)) = wanted ≡ None
 Answers wanted (Err OutOfMemory) = ⊤
 
--- what a fault of `clap` is here
 abbrev pub FaultOf : Error → UsageFault → Type 0
 FaultOf e (Help text) = kind_of e ≡ DisplayHelp
 FaultOf e Version = kind_of e ≡ DisplayVersion

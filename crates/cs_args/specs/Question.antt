@@ -12,7 +12,6 @@ first_start_day = 3
 abbrev pub longest_time : ℕ
 longest_time = 4_320
 
--- a civil day, the longest time of each run, and the catch-up hours
 pub record Question : Type 0 where
   pub day : ℕ
   pub max : ℕ
@@ -31,17 +30,17 @@ IsTime max = (1 ≤ max) × (max ≤ longest_time)
 abbrev pub AreHours : ℕ → ℕ → Type 0
 AreHours from to = (from < to) × (to ≤ 1440)
 
--- DATE is no date, or is not in range
+-- DATE isn't a date, or is out of range
 abbrev pub IsBadDate : List ℕ → List ℕ → Type 0
 IsBadDate text fault =
     ((¬ (IsDateText text)) × (fault ≡ codes "date: 1 NotADate"))
     ⊎ (IsDateText text × ((n : ℕ) → ¬ (NamesDay n text)) × (fault ≡ codes "date: 2 OutOfRange"))
 
--- MAX is not in range
+-- MAX is out of range
 abbrev pub IsBadMax : ℕ → List ℕ → Type 0
 IsBadMax max fault = (¬ (IsTime max)) × (fault ≡ codes "declarations: 6 BadMax")
 
--- the hours are none
+-- the hours are invalid
 abbrev pub AreBadHours : ℕ → ℕ → List ℕ → Type 0
 AreBadHours from to fault = (¬ (AreHours from to)) × (fault ≡ codes "declarations: 12 BadHours")
 

@@ -25,6 +25,5 @@ rule_taking (takes.Values name) id =
 abbrev pub rule_in : Argument → Rule
 rule_in a = rule_taking a.1 a.0.now
 
--- what `clap` found
 abbrev pub words_given : Given → List Row
 words_given given = rows_of (found_of given.matches.now)

@@ -46,7 +46,6 @@ static INPUTS: [&str; 12] = [
     "user",
 ];
 
-/// What a fault of `clap` is here.
 fn fault_of(alloc: Global, error: &Error) -> UsageFault
     ensures { FaultOf error.now result }
 {
@@ -64,14 +63,12 @@ fn fault_of(alloc: Global, error: &Error) -> UsageFault
     }
 }
 
-/// Whether all bytes are decimal digits.
 fn has_only_digits(bytes: &[u8]) -> bool
     ensures { result ≡ list_all is_ascii_digit bytes.now }
 {
     bytes.iter().all(|b| b.is_ascii_digit())
 }
 
-/// The number that decimal digits write, if it fits.
 #[tactic(auto, using(crate::proofs::CommandLineLemmas::number_read, crate::proofs::CommandLineLemmas::number_refused))]
 fn digits(text: &str) -> Option<u64>
     ensures { result ≡ number_of text.now }
@@ -82,7 +79,6 @@ fn digits(text: &str) -> Option<u64>
     text.parse::<u64>().ok()
 }
 
-/// How many of the paths name standard input.
 fn dash_count(paths: &[&str]) -> usize
     ensures { result ≡ count_by is_dash (map (λ path. path.now) paths.now) }
 {
@@ -98,21 +94,18 @@ struct Given<'a, 'm> {
 }
 
 impl<'a, 'm> Given<'a, 'm> {
-    /// The first value of an argument, if it has one.
     fn value(self, id: &str) -> Option<&'a str>
         ensures { option_map (λ text. text.now) result ≡ first_of id.now (words_given self.entry) }
     {
         self.matches.get_str(id)
     }
 
-    /// Whether an argument is given.
     fn is_given(self, id: &str) -> bool
         ensures { result ≡ is_given id.now (words_given self.entry) }
     {
         self.value(id).is_some()
     }
 
-    /// The first value of an argument, and this text where it has none.
     fn text(self, id: &str, absent: &'a str) -> &'a str
         ensures { result.now ≡ value_or absent.now id.now (words_given self.entry) }
     {
@@ -122,7 +115,6 @@ impl<'a, 'm> Given<'a, 'm> {
         }
     }
 
-    /// All values of an argument, in order.
     fn values(self, id: &str) -> Result<Vec<&'a str>, AllocError>
         ensures { IfOk result (λ values. map (λ text. text.now) values.items
             ≡ values_in id.now (words_given self.entry)) }
@@ -133,7 +125,6 @@ impl<'a, 'm> Given<'a, 'm> {
         }
     }
 
-    /// Whether an option with no value is given.
     fn has_flag(self, id: &str) -> bool
         ensures { result ≡ has_flag id.now (words_given self.entry) }
     {
@@ -143,7 +134,6 @@ impl<'a, 'm> Given<'a, 'm> {
         }
     }
 
-    /// How many of the values of an argument name standard input.
     fn dashes(self, id: &str) -> usize
         ensures { result ≡ count_by is_dash (values_in id.now (words_given self.entry)) }
     {
@@ -153,7 +143,6 @@ impl<'a, 'm> Given<'a, 'm> {
         }
     }
 
-    /// Whether the paths of these arguments name standard input more than once.
     fn is_twice_standard(self, ids: &[&str]) -> bool
         ensures { result ≡ is_twice_standard (map (λ id. id.now) ids.now) (words_given self.entry) }
     {
@@ -168,7 +157,6 @@ impl<'a, 'm> Given<'a, 'm> {
         false
     }
 
-    /// The number of an argument, if it has one.
     fn optional_number(self, id: &str) -> Option<u64>
         ensures { result ≡ optional_number id.now (words_given self.entry) }
     {
@@ -178,7 +166,6 @@ impl<'a, 'm> Given<'a, 'm> {
         }
     }
 
-    /// The number of an argument, and this one where it has none.
     fn number(self, id: &str, absent: u64) -> u64
         ensures { result ≡ number_or absent id.now (words_given self.entry) }
     {
@@ -188,7 +175,6 @@ impl<'a, 'm> Given<'a, 'm> {
         }
     }
 
-    /// The first of these arguments that is given and is no number.
     fn no_number(self, ids: &[&'static str]) -> Option<&'static str>
         ensures { is_some result
             ≡ has_no_number (map (λ id. id.now) ids.now) (words_given self.entry) }
@@ -201,7 +187,6 @@ impl<'a, 'm> Given<'a, 'm> {
         None
     }
 
-    /// What is wrong with the number of an argument.
     fn number_message(self, id: &str) -> Result<String, AllocError> {
         let text = self.text(id, "");
         let dashes = if id == "MAX" { "" } else { "--" };
@@ -213,7 +198,6 @@ impl<'a, 'm> Given<'a, 'm> {
         format!(in self.alloc; "{dashes}{id} is {fault}: {text}")
     }
 
-    /// The name that `help` is given, if no subcommand has it.
     fn unknown_name(self) -> Option<&'a str>
         ensures { is_some result ≡ has_unknown_name (words_given self.entry) }
     {
@@ -226,7 +210,7 @@ impl<'a, 'm> Given<'a, 'm> {
         }
     }
 
-    /// What the subcommand asks for that isn't given.
+    /// What the subcommand requires and isn't given.
     fn lacking(self) -> Option<&'static str>
         ensures { is_some result ≡ lacks self.entry.subcommand (words_given self.entry) }
     {
@@ -244,7 +228,6 @@ impl<'a, 'm> Given<'a, 'm> {
         }
     }
 
-    /// What is wrong with words that don't go together, or with a number.
     fn misfit(self) -> Option<&'static str>
         ensures { is_some result ≡ is_misfit (words_given self.entry) }
     {
@@ -274,7 +257,6 @@ impl<'a, 'm> Given<'a, 'm> {
         }
     }
 
-    /// What is wrong with the words, if anything is.
     fn message(self) -> Result<Option<String>, AllocError>
         ensures { IfOk result (λ message. is_some message
             ≡ is_wrong self.entry.subcommand (words_given self.entry)) }
@@ -295,7 +277,7 @@ impl<'a, 'm> Given<'a, 'm> {
         }
     }
 
-    /// What `day` is asked, and of `chart` the same, with this longest time where none is given.
+    /// For `day` and `chart`, with this longest time where none is given.
     fn day(self, absent: u64) -> DayWords<'a>
         ensures { asked result ≡ day_in absent (words_given self.entry) }
     {
@@ -309,7 +291,6 @@ impl<'a, 'm> Given<'a, 'm> {
         }
     }
 
-    /// What `chart` is asked.
     fn chart(self) -> ChartWords<'a>
         ensures { Chart (asked_chart result)
             ≡ asked_in subcommand.Chart (words_given self.entry) }
@@ -321,7 +302,6 @@ impl<'a, 'm> Given<'a, 'm> {
         }
     }
 
-    /// What `replay` is asked.
     fn replay(self) -> ReplayWords<'a>
         ensures { Replay (asked_replay result)
             ≡ asked_in subcommand.Replay (words_given self.entry) }
@@ -338,7 +318,7 @@ impl<'a, 'm> Given<'a, 'm> {
         }
     }
 
-    /// What `check` is asked, and of `run` the same.
+    /// For `check` and `run`.
     fn check(self) -> CheckWords<'a>
         ensures { asked_check result ≡ check_in (words_given self.entry) }
     {
@@ -350,7 +330,6 @@ impl<'a, 'm> Given<'a, 'm> {
         }
     }
 
-    /// What `run` is asked.
     fn run(self) -> RunWords<'a>
         ensures { Run (asked_run result) ≡ asked_in subcommand.Run (words_given self.entry) }
     {
@@ -367,7 +346,7 @@ impl<'a, 'm> Given<'a, 'm> {
         }
     }
 
-    /// What `judge` and `room` are asked, and of `make` and `advise` the same.
+    /// For `judge` and `room`, and the paths of `make` and `advise`.
     fn judge(self) -> JudgeWords<'a>
         ensures { asked_judge result ≡ judge_in (words_given self.entry) }
     {
@@ -378,7 +357,6 @@ impl<'a, 'm> Given<'a, 'm> {
         }
     }
 
-    /// What `gather` is asked.
     fn gather(self) -> Result<GatherWords<'a>, AllocError>
         ensures { IfOk result (λ g. Gather (asked_gather g)
             ≡ asked_in subcommand.Gather (words_given self.entry)) }
@@ -392,7 +370,6 @@ impl<'a, 'm> Given<'a, 'm> {
         })
     }
 
-    /// What `draft` is asked.
     fn draft(self) -> DraftWords<'a>
         ensures { Draft (asked_draft result) ≡ asked_in subcommand.Draft (words_given self.entry) }
     {
@@ -405,7 +382,6 @@ impl<'a, 'm> Given<'a, 'm> {
         }
     }
 
-    /// What `learn` is asked.
     fn learn(self) -> Result<LearnWords<'a>, AllocError>
         ensures { IfOk result (λ l. Learn (asked_learn l)
             ≡ asked_in subcommand.Learn (words_given self.entry)) }
@@ -418,7 +394,6 @@ impl<'a, 'm> Given<'a, 'm> {
         })
     }
 
-    /// What `lint` is asked.
     fn lint(self) -> Result<LintWords<'a>, AllocError>
         ensures { IfOk result (λ l. Lint (asked_lint l)
             ≡ asked_in subcommand.Lint (words_given self.entry)) }
@@ -446,7 +421,6 @@ impl<'a, 'm> Given<'a, 'm> {
         command(self.alloc)?.render_help()
     }
 
-    /// What the words ask, where nothing is wrong with them.
     fn request(self) -> Result<Request<'a>, UsageFault>
         ensures { Answers
             (Some (asked_in self.entry.subcommand (words_given self.entry))) result }
@@ -488,7 +462,6 @@ impl<'a, 'm> Given<'a, 'm> {
     }
 }
 
-/// What the words of a subcommand ask, by its name.
 #[tactic(auto, using(crate::proofs::CommandLineLemmas::refused, crate::proofs::CommandLineLemmas::answered))]
 fn asked_by<'a>(
     alloc: Global,
@@ -512,7 +485,7 @@ fn asked_by<'a>(
     }
 }
 
-/// What the words of a call ask, the first of which is the program's name.
+/// Returns what the words of a call ask, the first of which is the program's name.
 pub fn parse_words<'a, S: AsStr>(alloc: Global, words: &'a [S]) -> Result<Request<'a>, UsageFault>
     ensures { Parses (map S.text words.entry.now) result }
 {

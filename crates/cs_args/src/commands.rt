@@ -11,7 +11,6 @@ use clap::error::ErrorKind;
 use clap::{Arg, ArgAction, Command, Error};
 use std::alloc::{AllocError, Global};
 
-/// An argument as `clap` has it.
 fn arg_of<'a>(alloc: Global, argument: &Argument) -> Arg<'a>
     ensures rule { rule_of result ≡ rule_in argument.now }
     ensures local { result.global ≡ false }
@@ -28,7 +27,6 @@ fn arg_of<'a>(alloc: Global, argument: &Argument) -> Arg<'a>
     }
 }
 
-/// A subcommand as `clap` has it.
 fn command_of<'a>(alloc: Global, subcommand: Subcommand) -> Result<Command<'a>, AllocError>
     ensures app { IfOk result (λ c. app_of c ≡ app_of_subcommand subcommand) }
     ensures local { IfOk result IsLocal }
@@ -57,7 +55,6 @@ fn top<'a>(alloc: Global) -> Command<'a>
         .subcommand_required(true)
 }
 
-/// A command with these subcommands more.
 fn with_all<'a>(
     alloc: Global,
     mut command: Command<'a>,
@@ -71,14 +68,12 @@ fn with_all<'a>(
     Ok(command)
 }
 
-/// The command line of the program.
 pub(crate) fn command<'a>(alloc: Global) -> Result<Command<'a>, AllocError>
     ensures { IfOk result (λ c. app_of c ≡ cronsafe_app) }
 {
     with_all(alloc, top(alloc), &SUBCOMMANDS)
 }
 
-/// The one of these subcommands that has the name.
 fn named_among(subcommands: &[Subcommand], name: &str) -> Option<Subcommand>
     ensures { result ≡ named_among subcommands.now name.now }
 {
@@ -90,7 +85,6 @@ fn named_among(subcommands: &[Subcommand], name: &str) -> Option<Subcommand>
     None
 }
 
-/// What `clap` says of a fault.
 fn error_text(alloc: Global, error: &Error) -> Result<String, AllocError> {
     match error.to_string(alloc) {
         Ok(text) => Ok(text),
@@ -99,7 +93,6 @@ fn error_text(alloc: Global, error: &Error) -> Result<String, AllocError> {
 }
 
 impl Subcommand {
-    /// The subcommand of a name.
     #[tactic(auto, unfolding(crate::specs::CommandLine::all_subcommands))]
     pub(crate) fn named(name: &str) -> Option<Subcommand>
         ensures { result ≡ subcommand_named name.now }
@@ -113,7 +106,6 @@ impl Subcommand {
         command_of(alloc, self)?.bin_name(name.as_str())
     }
 
-    /// Its help.
     pub(crate) fn help(self, alloc: Global) -> Result<String, AllocError> {
         self.command(alloc)?.render_help()
     }

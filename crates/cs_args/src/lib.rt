@@ -1,4 +1,4 @@
-//! The words of a call: what they ask, or why they are no call.
+//! Reads the words of a call: what they ask, or why they aren't a call.
 #![tactic(auto)]
 
 mod command_line;

@@ -46,18 +46,17 @@ impl Model for Question {
     } };
 }
 
-/// What is wrong with the words of `day`, beside those that are no call.
+/// What is wrong with the words of `day`, where they are a call.
 #[derive(Clone, Copy)]
 pub enum WordFault {
-    /// DATE is no date, or not in range.
+    /// DATE isn't a date, or is out of range.
     Date(CivilFault),
-    /// MAX is not in range.
+    /// MAX is out of range.
     BadMax,
-    /// The catch-up hours are none.
+    /// The catch-up hours are empty, or end after the day.
     BadHours,
 }
 
-/// The day that the text names, from 1970-01-04 on.
 fn read_date(text: &str) -> Result<Day, CivilFault>
     ensures ok { IfOk result (λ day. NamesDay day text.now) }
     ensures err { IfErr result (λ fault. IsBadDate text.now (codes "date: " ++ fault_text fault)) }
@@ -69,7 +68,6 @@ fn read_date(text: &str) -> Result<Day, CivilFault>
     Ok(day)
 }
 
-/// A longest time from 1 to 4,320 minutes.
 fn read_longest_time(max: u64) -> Option<u16>
     ensures some { IfSome result (λ time. (time ≡ max) × IsTime max) }
     ensures none { IsNone result → ¬ (IsTime max) }
@@ -99,7 +97,7 @@ impl Question {
         }
     }
 
-    /// The civil day, from 1970-01-04 on.
+    /// The civil day.
     pub fn day(self) -> Day
         ensures value { result ≡ self.day }
         ensures late { 3 ≤ self.day }
@@ -107,7 +105,7 @@ impl Question {
         self.date
     }
 
-    /// The longest time of each run, from 1 to 4,320 minutes.
+    /// The longest time of each run, in minutes.
     pub fn max(self) -> u16
         ensures value { result ≡ self.max }
         ensures time { IsTime self.max }

@@ -1,4 +1,3 @@
-//! What a call asks, and why words are no call.
 ghost use Rattle.std.specs.Prelude.{◌≡◌};
 ghost use Rattle.cs_args.specs.declared.request.UsageFault.TheVariants.{OutOfMemory as no_memory};
 
@@ -62,23 +61,22 @@ pub struct RunWords<'a> {
     pub check: CheckWords<'a>,
     /// The path of a folder of stamps.
     pub stamps: &'a str,
-    /// After how many minutes the clock stops; never where there is no number.
+    /// After how many minutes the clock stops; never if there is no number.
     pub minutes: Option<u64>,
-    /// The path of a file to whose end the log goes, or `-` for standard output; standard output
-    /// where there is none, and then without times.
+    /// The path of a file to whose end the log goes, with times, or `-` for standard output. If
+    /// none, it goes to standard output, without times.
     pub log: Option<&'a str>,
-    /// The path of a folder in which each run gets a file for its output; the daemon's own streams
-    /// where there is none.
+    /// The path of a folder in which each run gets a file for its output. If none, output goes to
+    /// the daemon's own streams.
     pub output: Option<&'a str>,
-    /// How many files of each job are kept there, one at least; 30 where there is no number.
+    /// How many files of each job are kept there, at least 1; by default 30.
     pub keep: Option<u64>,
     /// Whether commands run with HOME, LOGNAME and USER of the user that cronsafe runs as, in that
     /// user's home folder.
     pub home: bool,
     /// The shell command that is started when a run passes its longest time.
     pub on_overrun: Option<&'a str>,
-    /// The shell command that is started when a run ends with a status other than 0, or can't be
-    /// started.
+    /// The shell command that is started when a run can't be started, or doesn't end with status 0.
     pub on_failure: Option<&'a str>,
 }
 
@@ -87,7 +85,7 @@ pub struct RunWords<'a> {
 pub struct StopWords<'a> {
     /// The path of the folder of stamps that the daemon uses.
     pub stamps: &'a str,
-    /// Whether the daemon's end isn't waited for.
+    /// Whether the call doesn't wait for the daemon's end.
     pub now: bool,
 }
 
@@ -116,8 +114,7 @@ pub struct JudgeWords<'a> {
 pub struct MakeWords<'a> {
     /// The paths that `judge` is asked with.
     pub judge: JudgeWords<'a>,
-    /// Whether the certificate is to be a compact one, which says only what the tables and
-    /// declarations don't.
+    /// Whether the certificate says only what the tables and declarations don't.
     pub compact: bool,
 }
 
@@ -128,7 +125,7 @@ pub struct AdviseWords<'a> {
     pub judge: JudgeWords<'a>,
     /// By how many minutes a job may be moved at most, from 1 to 1,439.
     pub within: u64,
-    /// How many changes are enough, 1 at least; all where there is no number.
+    /// How many changes are enough, at least 1; by default all.
     pub first: Option<u64>,
 }
 
@@ -167,7 +164,7 @@ pub struct LearnWords<'a> {
     pub logs: Vec<&'a str>,
     /// The path of an anacrontab.
     pub anacrontab: Option<&'a str>,
-    /// By how much a longest time is to be longer than the longest run, as it is written.
+    /// How many times the longest run a longest time is, as it is written.
     pub factor: &'a str,
 }
 
@@ -182,9 +179,9 @@ pub struct LintWords<'a> {
     pub anacrontab: Option<&'a str>,
     /// The path of a file of a time zone.
     pub zone: Option<&'a str>,
-    /// The names of the findings to show; all where there is none.
+    /// The names of the findings to show; all if there are none.
     pub only: Vec<&'a str>,
-    /// The names of the findings to leave out.
+    /// The names of the findings not to show.
     pub except: Vec<&'a str>,
     /// Whether only faults are shown, and nothing that is odd.
     pub faults_only: bool,
@@ -214,7 +211,7 @@ pub enum Request<'a> {
     Run(RunWords<'a>),
     /// The end of a daemon.
     Stop(StopWords<'a>),
-    /// That a daemon reads its files anew: the path of the folder of stamps that it uses.
+    /// That a daemon reads its files again: the path of the folder of stamps that it uses.
     Reload(&'a str),
     /// What a daemon does.
     Status(StatusWords<'a>),
@@ -240,16 +237,16 @@ pub enum Request<'a> {
     Explain(Option<&'a str>),
 }
 
-/// Why words are no call.
+/// Why the words of a call make no request.
 #[derive(Drop)]
 pub enum UsageFault {
     /// Help is asked for: its text.
     Help(String),
     /// The version is asked for.
     Version,
-    /// The words are no call of the program: what is wrong with them.
+    /// The words aren't a call of the program, for this reason.
     NoCall(String),
-    /// There was no room for the words or the text.
+    /// Memory ran out.
     OutOfMemory,
 }
 

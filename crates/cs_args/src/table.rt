@@ -8,9 +8,9 @@ use crate::texts;
 
 /// How an argument is given.
 pub(crate) enum Takes {
-    /// A word, which is required.
+    /// A required word.
     Word,
-    /// A word, which may be left out.
+    /// An optional word.
     OptionalWord,
     /// Words, one at least.
     Words,
@@ -153,7 +153,6 @@ static EXPLAIN: [Argument; 1] = [Argument("NAME", OptionalWord, texts::NAME_HELP
 
 static HELP: [Argument; 1] = [Argument("COMMAND", OptionalWord, texts::COMMAND_HELP)];
 
-/// A subcommand.
 #[derive(Clone, Copy)]
 pub(crate) enum Subcommand {
     Judge,

@@ -1,8 +1,7 @@
-//! The version.
 ghost use Rattle.std.specs.Prelude.{◌≡◌};
 ghost use Rattle.cs_args.specs.Version.{version_text};
 
-/// The program's name and its version, a line.
+/// The program's name and its version, in one line.
 pub fn version_text() -> &'static str
     ensures { result.now ≡ version_text }
 {

@@ -5,8 +5,7 @@ use Rattle.cs_files.specs.Ending.{Ends, RunsOut, Sink, Tries}
 use Rattle.cs_ask.specs.declared.asking.Refusal.{Refusal}
 use Rattle.cs_ask.specs.declared.asking.Refusal.TheVariants.{Another, NoDaemon, NoFolder, NotAsked, Unanswered, Unlocked, Untold}
 
--- what is said where a daemon doesn't do what it is asked, or its state isn't reported, in front of the
--- folder's path
+-- why a daemon doesn't do what it is asked, or its state isn't shown, before the folder's path
 abbrev pub in_front_of : Refusal → List ℕ
 in_front_of NoFolder = codes "no folder "
 in_front_of NoDaemon = codes "no daemon uses "
@@ -16,7 +15,6 @@ in_front_of Another = codes "another daemon uses "
 in_front_of Unanswered = codes "can't read the answer in "
 in_front_of Untold = codes "can't read the state in "
 
--- the status then
 abbrev pub refusal_status : Refusal → ℕ
 refusal_status NoFolder = 6
 refusal_status NoDaemon = 2
@@ -26,7 +24,6 @@ refusal_status Another = 6
 refusal_status Unanswered = 6
 refusal_status Untold = 6
 
--- what is answered then
 abbrev pub refused : Refusal → List ℕ → Ending
 refused refusal folder = record {
   status = refusal_status refusal;

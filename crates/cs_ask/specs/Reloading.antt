@@ -1,4 +1,4 @@
--- What comes of asking the daemon of a folder of stamps to read its files anew.
+-- What comes of asking the daemon of a folder of stamps to read its files again.
 use Rattle.std.specs.Prelude.{◌≡◌, ◌≢◌, ◌⊎◌, ◌+◌, ◌++◌, ◌∷◌, ℕ, List, [], codes}
 use Rattle.cs_files.specs.Response.{Ending, status_of}
 use Rattle.cs_files.specs.declared.response.Status.{Status}
@@ -14,8 +14,8 @@ reply_text status first second = (48 + status_of status) ∷ 10 ∷ (first ++ se
 abbrev pub answer_awaited : List ℕ
 answer_awaited = codes "cronsafe: waiting for the daemon's answer\n"
 
--- what is said of the text of an answer: what it has, with its status; or that it can't be read, where
--- it is no answer's
+-- the answer to the text of a daemon's answer: what that says, with its status; or that it can't be
+-- read, where it isn't one
 abbrev pub IsToldOf : List ℕ → List ℕ → Ending → Type 0
 IsToldOf folder answer ending =
     ((status : Status) × (text : List ℕ) × (answer ≡ reply_text status text [])

@@ -8,8 +8,8 @@ use Rattle.cs_ask.specs.declared.asking.Refusal.{Refusal}
 abbrev pub waiting_text : List ℕ
 waiting_text = codes "cronsafe: waiting for the runs under way to end\n"
 
--- It may be reported that runs are waited for, but not with `--now`. Then the daemon is stopped, or asked
--- to, and nothing is reported; or why it isn't; or memory ran out.
+-- It may be reported that runs are waited for, but not with `--now`. Then the daemon is stopped, or
+-- asked to, and nothing is reported; or why it isn't; or memory ran out.
 abbrev pub Stops : AskedStop → Sink → Sink → Sink → Sink → ℕ → Type 0
 Stops a out-old out-new err-old err-new status = (waited : Sink)
     × MayTell waiting_text err-old waited × (a.now ≡ true → waited ≡ err-old)

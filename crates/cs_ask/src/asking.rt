@@ -14,27 +14,24 @@ use std::sync::Wait;
 use std::thread;
 use std::time::Duration;
 
-/// Why a daemon doesn't do what it is asked, or its state isn't reported.
+/// Why a daemon doesn't do what it is asked, or its state isn't shown.
 #[derive(Clone, Copy)]
 pub(crate) enum Refusal {
-    /// There is no such folder of stamps.
     NoFolder,
-    /// No daemon has locked it.
+    /// No daemon has locked the folder of stamps.
     NoDaemon,
-    /// It can't be locked.
     Unlocked,
     /// The file that asks the daemon can't be made.
     NotAsked,
     /// The daemon has ended, and another has locked the folder by now.
     Another,
-    /// What the daemon answered can't be read.
     Unanswered,
     /// The folder holds no state that can be read.
     Untold,
 }
 
 impl Refusal {
-    /// What is said of it, in front of the folder's path.
+    /// What is written of it, before the folder's path.
     fn text(self) -> &'static str
         ensures { result.now ≡ in_front_of self }
     {
@@ -49,7 +46,6 @@ impl Refusal {
         }
     }
 
-    /// What is answered.
     pub(crate) fn response(self, alloc: Global, folder: &str) -> Result<Response, AllocError>
         ensures { IfOk result (λ r. r ≡ refused self folder.now) }
     {
@@ -63,7 +59,7 @@ impl Refusal {
     }
 }
 
-/// Looks whether a daemon uses a folder.
+/// Checks that a daemon uses a folder.
 pub(crate) fn find_daemon<R: Files<File = File>>(
     rt: &R,
     alloc: Global,
@@ -79,7 +75,7 @@ pub(crate) fn find_daemon<R: Files<File = File>>(
     }
 }
 
-/// Says why a daemon doesn't do what it is asked.
+/// Answers why a daemon doesn't do what it is asked.
 pub(crate) fn refuse<O: Output, E: Output>(
     alloc: Global,
     refusal: Refusal,
@@ -100,14 +96,13 @@ pub(crate) fn refuse<O: Output, E: Output>(
     }
 }
 
-/// How long it takes until a folder is looked at again.
+/// How many milliseconds pass until a folder is looked at again.
 const MILLISECONDS: u64 = 200;
 
-/// How often a folder is looked at before it's shown that there is something to wait for: a daemon
-/// looks once a second whether it is asked.
+/// How often a folder is looked at before a message says what is waited for: a daemon looks once a
+/// second whether it is asked.
 const LOOKS: u32 = 10;
 
-/// Waits a moment, and looks.
 fn look_again<R: Clock, T: Drop, F: Fn() -> Option<T> + Drop>(rt: &R, look: &F) -> Option<T>
     requires { F.IsAlwaysCallable look.now }
 {
@@ -127,7 +122,7 @@ fn wait_a_little<R: Clock, T: Drop, F: Fn() -> Option<T> + Drop>(rt: &R, look: &
     None
 }
 
-/// Looks at a folder until there is something, and says what it waits for where that takes long.
+/// Looks at a folder until there is something, and writes what it waits for if that takes long.
 pub(crate) fn wait_for<R: Clock + Wait, T: Drop, F: Fn() -> Option<T> + Drop, E: Output>(
     rt: &R,
     what: &str,

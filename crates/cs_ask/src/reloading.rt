@@ -1,4 +1,4 @@
-//! Asking the daemon of a folder of stamps to read its files anew.
+//! Asking the daemon of a folder of stamps to read its files again.
 ghost use Rattle.std.specs.Prelude.{◌≡◌, IfOk, MatchResult};
 ghost use Rattle.cs_files.specs.Response.{status_of};
 ghost use Rattle.cs_ask.specs.Asking.{MayTell, refused};
@@ -24,7 +24,6 @@ struct Exchange<'f> {
 }
 
 impl<'f> Exchange<'f> {
-    /// Those in a folder of stamps. The only error is out of memory.
     fn of(alloc: Global, folder: &'f str) -> Result<Exchange<'f>, AllocError> {
         let request = RequestFile::to_reload(alloc, folder)?;
         let answer = ToldFile::answer(alloc, folder)?;
@@ -32,7 +31,7 @@ impl<'f> Exchange<'f> {
     }
 }
 
-/// Whether the daemon of a folder has answered, or has ended; none where it has still to answer.
+/// Whether the daemon of a folder has answered, or has ended; none while it has still to answer.
 fn look<R: Files<File = File>>(
     rt: &R,
     folder: &str,
@@ -52,7 +51,6 @@ fn look<R: Files<File = File>>(
     }
 }
 
-/// Asks the daemon of a folder, and waits for its answer.
 fn ask_and_wait<R: Files<File = File> + Clock + Wait, E: Output>(
     rt: &R,
     alloc: Global,
@@ -79,7 +77,6 @@ fn ask_and_wait<R: Files<File = File> + Clock + Wait, E: Output>(
     text.map_err(|_| Refusal::Unanswered)
 }
 
-/// What is said of a daemon's answer.
 fn response_to(alloc: Global, folder: &str, text: &[u8]) -> Result<Response, AllocError>
     ensures { IfOk result (IsToldOf folder.now text.now) }
 {
@@ -90,7 +87,6 @@ fn response_to(alloc: Global, folder: &str, text: &[u8]) -> Result<Response, All
     Ok(Response::told(reply.status, Vec::new(alloc), told))
 }
 
-/// What comes of asking.
 fn response_of(
     alloc: Global,
     folder: &str,
@@ -106,10 +102,9 @@ fn response_of(
     }
 }
 
-/// Asks the daemon of a folder of stamps to read its files anew, and gives the status: 0 the new plan
-/// is accepted, and begins when the runs under way have ended; 2 no daemon uses the folder, 5 want of
-/// memory, 6 the folder can't be used; or that with which the daemon has refused its files, which
-/// goes on as before.
+/// Asks the daemon of a folder of stamps to read its files again, and returns the status: that of
+/// its answer, or of why there is none. Where it accepts its files, the new plan begins when the
+/// runs under way have ended; else it goes on as before.
 pub fn reload<R: Files<File = File> + Clock + Wait, O: Output, E: Output>(
     rt: &R,
     alloc: Global,

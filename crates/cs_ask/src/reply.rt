@@ -1,4 +1,4 @@
-//! What a daemon answers where it is asked to read its files anew.
+//! A daemon's answer to a request to read its files again.
 ghost use Rattle.std.specs.Prelude.{◌≡◌, ◌≢◌, ◌+◌, [], IfOk, MatchOption, ℕ, List};
 ghost use Rattle.cs_files.specs.Response.{status_of};
 ghost use Rattle.cs_files.specs.declared.response.Status.{Status};
@@ -7,14 +7,13 @@ ghost use Rattle.cs_ask.specs.Reloading.{reply_text};
 use cs_files::Status;
 use std::alloc::{AllocError, Global};
 
-/// A status, and what is said with it.
+/// A status, and the text with it.
 #[derive(Clone, Copy)]
 pub(crate) struct Reply<'a> {
     pub(crate) status: Status,
     pub(crate) text: &'a [u8],
 }
 
-/// The status of this digit.
 fn status_of_digit(digit: u8) -> Option<Status>
     ensures { MatchOption result ((s : Status) → digit ≢ 48 + status_of s)
         (λ s. digit ≡ 48 + status_of s) }
@@ -31,8 +30,7 @@ fn status_of_digit(digit: u8) -> Option<Status>
     }
 }
 
-/// The text of an answer: the digit of its status, a newline, and what is said: one text after
-/// another.
+/// Returns the text of an answer: the digit of its status, a newline, and two texts.
 pub fn reply_text(
     alloc: Global,
     status: Status,
@@ -47,7 +45,6 @@ pub fn reply_text(
     Ok(text)
 }
 
-/// The answer of this text, if it is one's.
 pub(crate) fn read_reply(text: &[u8]) -> Option<Reply<'_>>
     ensures { MatchOption result
         ((s : Status) (told : List ℕ) → text.now ≢ reply_text s told [])

@@ -16,7 +16,7 @@ use std::fs::File;
 use std::rt::{Clock, Files};
 use std::sync::Wait;
 
-/// Whether the daemon of a folder has ended; none where it goes on.
+/// Whether the daemon of a folder has ended; none while it goes on.
 fn look<R: Files<File = File>>(
     rt: &R,
     folder: &str,
@@ -34,7 +34,6 @@ fn look<R: Files<File = File>>(
     }
 }
 
-/// Asks the daemon of a folder to stop, and waits for its end unless `--now` is given.
 fn ask_and_wait<R: Files<File = File> + Clock + Wait, E: Output>(
     rt: &R,
     alloc: Global,
@@ -63,9 +62,8 @@ fn ask_and_wait<R: Files<File = File> + Clock + Wait, E: Output>(
     )
 }
 
-/// Asks the daemon of a folder of stamps to stop, waits for its end unless `--now` is given, and gives
-/// the status: 0 stopped, or asked, 2 no daemon uses the folder, 5 out of memory, 6 the folder
-/// can't be used.
+/// Asks the daemon of a folder of stamps to stop, waits for its end unless `--now` is given, and
+/// returns the status: 0, or that of why it isn't stopped.
 pub fn stop<R: Files<File = File> + Clock + Wait, O: Output, E: Output>(
     rt: &R,
     alloc: Global,

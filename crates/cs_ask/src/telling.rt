@@ -1,4 +1,4 @@
-//! Telling what the daemon of a folder of stamps does.
+//! Showing what the daemon of a folder of stamps does.
 ghost use Rattle.std.specs.Prelude.{◌≡◌, ◌++◌, IfOk};
 ghost use Rattle.cs_files.specs.Response.{complaint, status_of};
 ghost use Rattle.cs_files.specs.Ending.{sink};
@@ -27,7 +27,7 @@ pub(crate) enum Health {
     Old,
 }
 
-/// How a daemon fares by this machine's clock. Where that can't be read, no state is old.
+/// If this machine's clock can't be read, no state is old.
 fn health_of<R: Clock>(rt: &R, report: &Report) -> Health {
     match unix_seconds(rt) {
         Some(now) if report.is_old(now) => Health::Old,
@@ -36,7 +36,6 @@ fn health_of<R: Clock>(rt: &R, report: &Report) -> Health {
     }
 }
 
-/// What is said of a state that is too old.
 #[tactic(auto, unfolding(cs_files::specs::Response::complaint))]
 fn complaint_of_age(alloc: Global, folder: &str) -> Result<Bytes, AllocError>
     ensures { IfOk result (λ told. told ≡ complaint (in_front_of_old ++ folder.now)) }
@@ -48,7 +47,6 @@ fn complaint_of_age(alloc: Global, folder: &str) -> Result<Bytes, AllocError>
     Ok(Bytes::from_vec(told))
 }
 
-/// What is answered where a state is reported.
 fn told_response(
     alloc: Global,
     health: Health,
@@ -67,7 +65,6 @@ fn told_response(
     }
 }
 
-/// What is answered to a state that was read.
 fn respond_to<R: Clock>(
     rt: &R,
     alloc: Global,
@@ -90,7 +87,6 @@ fn respond_to<R: Clock>(
     told_response(alloc, health, text, words.stamps)
 }
 
-/// The state of the daemon that uses a folder.
 fn look<R: Files<File = File>>(rt: &R, alloc: Global, folder: &str) -> Result<Vec<u8>, Refusal> {
     find_daemon(rt, alloc, folder)?;
     let Ok(file) = ToldFile::state(alloc, folder) else {
@@ -99,9 +95,8 @@ fn look<R: Files<File = File>>(rt: &R, alloc: Global, folder: &str) -> Result<Ve
     file.read(rt, alloc).map_err(|_| Refusal::Untold)
 }
 
-/// Says what the daemon of a folder of stamps does, and gives the status: 0 all is well, 1 a run is
-/// late or a stamp couldn't be written, 2 no daemon uses the folder or the state is too old, 5 want of
-/// memory, 6 the folder or the state in it can't be used.
+/// Shows what the daemon of a folder of stamps does, and returns the status: 0 if all is well, 1 if
+/// it is faulty, 2 if its state is too old, or that of why there is none.
 pub fn tell_status<R: Files<File = File> + Clock, O: Output, E: Output>(
     rt: &R,
     alloc: Global,

@@ -1,4 +1,3 @@
--- Lists and numbers that are written read back.
 use Rattle.std.proofs.Common.{◌≡◌, ℕ, ◌+◌, ◌-◌, ◌≤◌, min, List, [], ◌∷◌, map, length, Bool, true, ◌&&◌, nat_eq, nat_lt, nat_le, Result, Ok, refl, sym, ap, subst, arith}
 use Rattle.std.proofs.lemmas.Bool.{eqb-true, ltb-true, leb-true}
 use Rattle.std.specs.List.{list_all}
@@ -19,14 +18,12 @@ use Rattle.cs_cert.specs.Written.{carry_class_data, carry_data, class_data, due_
 use Rattle.cs_claims.proofs.Backlogs.{so_backlog}
 use Rattle.cs_claims.proofs.Both.{and_both, both_and}
 
--- a number in range is held as it is
 pub held_back : (top n : ℕ) → n ≤ top → min n top ≡ n
 held_back top n h = omega (arith, h)
 
 pub below_back : (top bound n : ℕ) → bound ≤ top → nat_lt n bound ≡ true → min n top ≡ n
 below_back top bound n b h = let below = ltb-true n bound h in held_back top n (omega (arith, b, below))
 
--- a list whose items read back does, where each item passes the test
 all_back : {A : Type 0} (said : Data → Result A JsonFault) (spelled : A → Data) (test : A → Bool) → ((x : A) → test x ≡ true → said (spelled x) ≡ Ok x)
     → (xs : List A) → list_all test xs ≡ true → all_as said (list_of (items_of (map spelled xs))) ≡ Ok xs
 all_back said spelled test back [] h = refl
@@ -77,7 +74,6 @@ class_back c h =
     let backlog = and_both _ (list_all group_backlog_fits c.backlog) p.1 in
     rw (list_back due_list_said due_list_data due_list_fits due_list_back c.due due.1, list_back group_backlog_said group_backlog_data group_backlog_fits group_backlog_back c.backlog backlog.1) refl
 
--- one piece at minute 0 is read as what is left over then
 one_carry_back : (g v : ℕ) → nat_lt g 64 ≡ true → is_backlog_from 0 (record { minute = 0; value = v } ∷ []) ≡ true
     → carry_said (carry_data (record { group = g; backlog = record { minute = 0; value = v } ∷ [] })) ≡ Ok (record { group = g; backlog = record { minute = 0; value = v } ∷ [] })
 one_carry_back g v small good =
@@ -85,7 +81,6 @@ one_carry_back g v small good =
     let same : v - (0 - 0) ≡ v = omega arith in
     rw (below_back 255 64 g (omega arith) small, same, k.1, good) refl
 
--- a piece at minute 0 has no other after it there
 carry_of_back : (g : ℕ) (ps : List Piece) → nat_lt g 64 ≡ true → is_backlog_from 0 ps ≡ true → list_all (λ p. nat_eq p.minute 0) ps ≡ true → nat_lt 0 (length ps) ≡ true
     → carry_said (carry_data (record { group = g; backlog = ps })) ≡ Ok (record { group = g; backlog = ps })
 carry_of_back g [] small good start some = absurd (cc)
@@ -99,7 +94,6 @@ carry_of_back g (p ∷ q ∷ ps) small good start some =
     let first : q.minute ≡ 0 = eqb-true q.minute 0 (and_both (nat_eq q.minute 0) (list_all (λ p. nat_eq p.minute 0) ps) rest).0 in
     absurd (omega (arith, later, first))
 
--- what is left over for a group reads back
 abbrev pub carry_fits : GroupBacklog → Bool
 carry_fits b = group_backlog_fits b && is_at_midnight b && has_carry b
 
@@ -125,7 +119,6 @@ none_listed (d ∷ due) h = let none : length (d ∷ due) ≡ 0 = eqb-true (leng
 abbrev with_due : List GroupBacklog → List DueList → Result Class JsonFault
 with_due backlog due = Ok (record { due = due; backlog = backlog })
 
--- a class with only what is left over
 abbrev pub carry_class_fits : Class → Bool
 carry_class_fits c = class_fits c && is_carries c && has_carries c
 

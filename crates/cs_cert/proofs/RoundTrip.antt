@@ -1,4 +1,3 @@
--- A certificate that is written reads back.
 use Rattle.std.proofs.Common.{◌≡◌, ℕ, ◌≤◌, List, [], ◌∷◌, Bool, true, false, ◌&&◌, nat_lt, nat_le, length, Option, Some, None, Result, Ok, Err, Vec, Global, refl, sym, subst, arith, inl, inr}
 use Rattle.std.specs.Prelude.{IfOk, ◌⊎◌, ◌==◌, if◌then◌else◌}
 use Rattle.std.specs.List.{list_all}
@@ -37,7 +36,6 @@ all_fit days count (s ∷ xs) h k l =
     let r = and_both (is_of_classes count s) (list_all (is_of_classes count) xs) l in
     both_and _ _ (both_and _ _ (both_and _ _ p.0 q.0) r.0) (all_fit days count xs p.1 q.1 r.1)
 
--- class numbers below a count that is not too great are below the bound
 numbers_below : (count : ℕ) → count ≤ 2562 → (ns : List ℕ) → list_all (λ n. nat_lt n count) ns ≡ true → list_as (held 4294967295) (list_data number_data ns) ≡ Ok ns
 numbers_below count c ns h = numbers_back 4294967295 count (omega (arith, c)) ns h
 
@@ -47,7 +45,6 @@ stretch_back days count d c s h =
     let q = and_both (is_split_well s) (has_entries days s) p.0 in
     rw (numbers_below count c s.of p.1, minute_back days d s.tree 0 1440 (omega arith) q.0 q.1) refl
 
--- what each member says
 pub record ReadsBack (classes : List Class) (kinds : day.Tree) (stretches : List StretchTree) (reach : List JobReach) : Type 0 where
   pub of_classes : list_as class_said (list_data class_data classes) ≡ Ok classes
   pub of_kinds : day_tree_said (day_tree_data kinds) ≡ Ok kinds
@@ -65,7 +62,6 @@ second_back : (c : Content) → ReadsBack c.classes c.kinds c.stretches c.reach 
 unfolding content_said listed_said
 second_back c r = rw (r.of_classes, r.of_kinds, r.of_stretches, r.of_reach) refl
 
--- what each member of version 3 says
 pub record CarriesBack (c : Content) : Type 0 where
   pub of_classes : list_as carry_class_said (list_data carry_class_data c.classes) ≡ Ok c.classes
   pub of_kinds : day_tree_said (day_tree_data c.kinds) ≡ Ok c.kinds
@@ -87,7 +83,6 @@ short_reach version = step (version == 1)
     step true = omega arith
     step false = omega arith
 
--- classes are few enough
 few : (c : Content) → Rules c → length c.classes ≤ 2562
 few c r = let count = leb-true _ _ r.count in omega (arith, count, few_classes c.version)
 

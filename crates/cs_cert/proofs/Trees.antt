@@ -1,4 +1,3 @@
--- One level of a tree in JSON.
 use Rattle.std.proofs.Common.{◌≡◌, ◌<◌, ◌≤◌, arith, ℕ, List, Option, Some, None, Result, Ok, Err, refl, sym, Ordering, Less, Equal, Greater, Bool, true, false, option_map}
 use Rattle.std.specs.Prelude.{is_some}
 use Rattle.std.specs.Ordering.{nat_cmp, match_ordering}
@@ -31,7 +30,6 @@ leaf_here s (string text) h = cc
 leaf_here s (array ds) h = cc
 leaf_here s (object ms) h = rw h refl
 
--- what is no object is no split
 abbrev Refuses : {T : Type 0} → TreeShape T → Type 0
 Refuses {T} s = (a b : Result T JsonFault) (d : Data) → as_object d ≡ None → s.split_said a b d ≡ Err BadShape
 
@@ -95,7 +93,6 @@ shaped_is (Some x) e h = cc
 pub found_depth : (k : List ℕ) (d e : Data) → or_bad_shape (get k d) ≡ Ok e → depth e < depth d
 found_depth k d e h = get_depth k d e (shaped_is (get k d) e h)
 
--- a test on what was found is a test on what it stands for
 pub some_seen : {A B : Type 0} (f : A → B) (r : Option A) (o : Option B) (b : Bool) → option_map f r ≡ o → is_some r ≡ b → is_some o ≡ b
 some_seen f None o b e h = rw (← e) h
 some_seen f (Some x) o b e h = rw (← e) h

@@ -17,7 +17,8 @@ abbrev pub capped : ℕ → ℤ → ℕ
 capped top (pos n) = min n top
 capped top (negsuc n) = top
 
--- a number as held: no rule allows the top, so one that isn't held breaks the rule as well
+-- a number as it is held: no rule allows the top, so that one that isn't held breaks the rule as
+-- well
 abbrev pub held : ℕ → Data → Result ℕ JsonFault
 held top d = whole_number d >>= (λ z. Ok (capped top z))
 
@@ -31,7 +32,8 @@ abbrev pub piece_said : Data → Result Piece JsonFault
 piece_said d =
     pair_as (held 65535) (held 4294967295) d >>= (λ p. Ok (record { minute = p.0; value = p.1 }))
 
--- pieces that make no backlog are held for a group out of range: so the list breaks its rule too
+-- pieces that make no backlog are held for a group out of range, so that the list breaks its rule
+-- too
 abbrev pub held_backlog : ℕ → List Piece → GroupBacklog
 held_backlog group pieces = if is_backlog_from 0 pieces
     then record { group = group; backlog = pieces } else record { group = 255; backlog = [] }

@@ -1,5 +1,5 @@
 -- The value of a tree in JSON, or BadShape. An object with a member of one name is a leaf, any
--- other a split, whose halves are under two names.
+-- other a split, whose halves have two other names.
 use Rattle.std.specs.Prelude.{ℕ, List, [], ◌∷◌, bytes_eq, Option, Some, None, is_some, option_and_then, Result, Ok, Err, codes, if◌then◌else◌}
 use Rattle.std.specs.Ordering.{nat_cmp, match_ordering}
 use Rattle.std.specs.Cmp.Lexicographic.{slice_cmp}

@@ -1,5 +1,3 @@
-//! The classes of version 3 in JSON: what is left over at midnight.
-
 ghost use Rattle.std.specs.Prelude.{◌≡◌, IfOk, map};
 ghost use Rattle.serde_json.specs.View.{items_view, view};
 ghost use Rattle.cs_json.specs.Bytes.{list_of};
@@ -64,7 +62,7 @@ fn read_each_class(alloc: Global, list: &Vec<Value>) -> Result<Vec<Class>, Misre
     Ok(found)
 }
 
-/// The classes of version 3. `BadShape` if they have another shape; `Memory` if memory runs out.
+/// `BadShape` if they have another shape.
 pub(crate) fn read_carry_classes(alloc: Global, value: &Value) -> Result<Sequence<Class>, Misread>
     ensures { Gives (λ s. s) result (list_as carry_class_said (view value.now)) }
 {
@@ -105,7 +103,6 @@ fn write_each_class(alloc: Global, classes: &[Class]) -> Result<Vec<Value>, Allo
     Ok(written)
 }
 
-/// Writes the classes of version 3. The only error is out of memory.
 pub(crate) fn write_carry_classes(alloc: Global, classes: &[Class]) -> Result<Value, AllocError>
     ensures { IfOk result (λ v. view v ≡ list_data carry_class_data classes.now) }
 {

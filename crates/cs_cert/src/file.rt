@@ -1,5 +1,3 @@
-//! The text of a certificate.
-
 ghost use Rattle.std.specs.Prelude.{◌≡◌, ◌≤◌, IfOk, Ok, codes, length};
 ghost use Rattle.serde_json.specs.Data.{member, no_members, object};
 ghost use Rattle.serde_json.specs.View.{view};
@@ -47,7 +45,6 @@ fn stretches_name(version: u8) -> &'static str
     if version == 2 { "stretches" } else { "pairs" }
 }
 
-/// The parts of a certificate of version 1 or 2.
 #[tactic(auto, unfolding(crate::specs::Denoted::listed_said))]
 fn read_listed(alloc: Global, value: &Value, version: u8) -> Result<Parts, Misread>
     ensures { json.Gives content_of result (listed_said version (view value.now)) }
@@ -67,7 +64,6 @@ fn read_listed(alloc: Global, value: &Value, version: u8) -> Result<Parts, Misre
     })
 }
 
-/// The parts of a certificate of version 3.
 #[tactic(auto, unfolding(crate::specs::Denoted::carried_said))]
 fn read_carried(alloc: Global, value: &Value) -> Result<Parts, Misread>
     ensures { json.Gives content_of result (carried_said (view value.now)) }
@@ -110,8 +106,8 @@ fn parts_in(alloc: Global, value: &Value) -> Result<Parts, CertError>
     }
 }
 
-/// Reads a certificate, or returns the fault with the smallest number in the whole text;
-/// `OutOfMemory` only if memory runs out.
+/// Reads a certificate. The error is the fault with the smallest number in the whole text, or
+/// `OutOfMemory` if memory runs out.
 #[tactic(auto, unfolding(crate::specs::Denoted::certificate_by))]
 pub fn read_certificate(alloc: Global, bytes: &[u8]) -> Result<Certificate, CertError>
     ensures { Gives content result (certificate_by bytes.now) }
@@ -127,7 +123,6 @@ pub fn read_certificate(alloc: Global, bytes: &[u8]) -> Result<Certificate, Cert
     }
 }
 
-/// The JSON of a certificate of version 3, from that of its parts.
 fn third_value(
     alloc: Global,
     classes: Value,
@@ -143,7 +138,6 @@ fn third_value(
     json!(in alloc; {"classes": classes, "kinds": kinds, "reach": reach, "version": version})
 }
 
-/// The JSON of a certificate of version 3.
 fn carried_value(alloc: Global, parts: &Parts) -> Result<Value, AllocError>
     ensures { IfOk result (λ v. view v ≡ third_version_data (content_of parts.now)) }
 {
@@ -153,7 +147,6 @@ fn carried_value(alloc: Global, parts: &Parts) -> Result<Value, AllocError>
     third_value(alloc, classes, kinds, reach, parts.version)
 }
 
-/// The JSON of a certificate of version 1, from that of its parts.
 fn first_value(
     alloc: Global,
     classes: Value,
@@ -171,7 +164,6 @@ fn first_value(
     json!(in alloc; {"classes": classes, "kinds": kinds, "pairs": stretches, "reach": reach, "version": version})
 }
 
-/// The JSON of a certificate of version 2, from that of its parts.
 fn second_value(
     alloc: Global,
     classes: Value,
@@ -189,7 +181,6 @@ fn second_value(
     json!(in alloc; {"classes": classes, "kinds": kinds, "reach": reach, "stretches": stretches, "version": version})
 }
 
-/// The JSON of a certificate of version 1 or 2.
 fn listed_value(alloc: Global, parts: &Parts) -> Result<Value, AllocError>
     ensures { IfOk result (λ v. view v ≡ listed_data (content_of parts.now)) }
 {

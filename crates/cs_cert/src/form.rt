@@ -1,5 +1,3 @@
-//! Values in the JSON text of a certificate, and lists of them.
-
 ghost use Rattle.std.specs.Prelude.{◌≡◌, IfOk, List, map, Result, [], ◌∷◌};
 ghost use Rattle.serde_json.specs.Data.{Data, array, item, no_items};
 ghost use Rattle.serde_json.specs.View.{items_of, items_view, view};
@@ -16,8 +14,9 @@ use std::alloc::{AllocError, Global};
 
 /// A value in the JSON text of a certificate.
 ///
-/// A whole number is held in the type that its rules need; one beyond that type as its greatest
-/// value, which no rule allows: so it has the fault that the number itself would have.
+/// A whole number is held in the type that its rules need. One beyond that type is held as its
+/// greatest value, which no rule allows, so that it has the fault that the number itself would
+/// have.
 pub(crate) trait Form: Drop {
     /// What a clause sees of a value of this type.
     ghost Seen: { Type 0 };
@@ -31,16 +30,15 @@ pub(crate) trait Form: Drop {
     /// The JSON value that is written.
     ghost written: { Seen → Data };
 
-    /// Reads the JSON value. `BadShape` if it has another shape; `Memory` if memory runs out.
+    /// `BadShape` if it has another shape.
     fn read(alloc: Global, value: &Value) -> Result<Self, Misread>
         ensures { Gives seen result (said (view value.now)) };
 
-    /// Writes the JSON value. The only error is out of memory.
     fn write(&self, alloc: Global) -> Result<Value, AllocError>
         ensures { IfOk result (λ v. view v ≡ written (seen self.now)) };
 }
 
-/// A list, of any length.
+/// A list of any length.
 impl<T: Form> Form for Sequence<T> {
     ghost Seen = { List T.Seen };
 
@@ -59,7 +57,6 @@ impl<T: Form> Form for Sequence<T> {
     }
 }
 
-/// The items of a list.
 pub(crate) fn items(value: &Value) -> Result<&Vec<Value>, Misread>
     ensures { Gives (λ l. items_view l.now.items) result
         (or_bad_shape (as_array (view value.now))) }
@@ -78,7 +75,6 @@ fn read_each<T: Form>(alloc: Global, list: &Vec<Value>) -> Result<Vec<T>, Misrea
     Ok(found)
 }
 
-/// The JSON values of a list's items.
 pub(crate) fn write_each<T: Form>(alloc: Global, list: &[T]) -> Result<Vec<Value>, AllocError>
     ensures { IfOk result (λ v. map view v.items ≡ map T.written (map T.seen list.now)) }
 {
@@ -89,7 +85,7 @@ pub(crate) fn write_each<T: Form>(alloc: Global, list: &[T]) -> Result<Vec<Value
     Ok(found)
 }
 
-/// A required member of an object. `BadShape` if absent or misshapen; `Memory` if memory runs out.
+/// A required member of an object. `BadShape` if it is absent or misshapen.
 pub(crate) fn member<T: Form>(alloc: Global, value: &Value, name: &str) -> Result<T, Misread>
     ensures { Gives T.seen result (member_as T.said name.now (view value.now)) }
 {
@@ -147,14 +143,12 @@ fn read_three<A: Form, B: Form, C: Form>(
     Ok((first, second, C::read(alloc, c)?))
 }
 
-/// A list of two values.
 pub(crate) fn pair(alloc: Global, first: Value, second: Value) -> Result<Value, AllocError>
     ensures { IfOk result (λ v. view v ≡ array (item (view first) (item (view second) no_items))) }
 {
     Ok(Value::Array(vec![in alloc; first, second]?))
 }
 
-/// A list of three values.
 pub(crate) fn triple(
     alloc: Global,
     first: Value,

@@ -1,4 +1,4 @@
-//! The JSON text of certificates: read, and written.
+//! Reads and writes the JSON text of certificates.
 #![tactic(auto)]
 
 mod carry_form;

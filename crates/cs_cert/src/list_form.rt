@@ -1,5 +1,3 @@
-//! The lists of a certificate in JSON: due minutes, backlogs, reaches and entries.
-
 ghost use Rattle.std.specs.Prelude.{◌≡◌, IfOk};
 ghost use Rattle.serde_json.specs.View.{view};
 ghost use Rattle.cs_wait.specs.declared.backlog.Piece.{Piece};
@@ -60,7 +58,7 @@ impl Form for Piece {
     }
 }
 
-/// The pieces of a group. Those that make no backlog become none, of a group out of range: 255.
+/// The pieces of a group. Those that make no backlog become none, of a group out of range, 255.
 pub(crate) fn held_backlog(alloc: Global, group: u8, pieces: Sequence<Piece>) -> GroupBacklog
     ensures { result ≡ held_backlog group pieces }
 {

@@ -1,5 +1,3 @@
-//! Minute trees and stretches in JSON.
-
 ghost use Rattle.std.specs.Prelude.{◌≡◌, codes};
 ghost use Rattle.serde_json.specs.View.{view};
 ghost use Rattle.cs_json.specs.Gives.{Gives};

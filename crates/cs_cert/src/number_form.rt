@@ -1,5 +1,3 @@
-//! Whole numbers, as they are held.
-
 ghost use Rattle.std.specs.Prelude.{◌≡◌, ℕ};
 ghost use Rattle.cs_cert.specs.Said.{held};
 ghost use Rattle.cs_cert.specs.Written.{number_data};

@@ -1,17 +1,17 @@
-//! The times of a day in which a lock may be held without a gap.
 use crate::gains::Arrival;
 use std::alloc::{AllocError, Global};
 
-/// Minutes in which a lock may be held without a gap, in minutes of the day on which they begin.
+/// A time in which a lock may be held without a gap, in minutes of the day on which it begins.
 #[derive(Clone, Copy)]
 pub(crate) struct BusyTime {
     pub(crate) from: u32,
-    /// The minute in which all that waited has had the lock; behind the day where more is left when it ends.
+    /// The minute in which all that waited has had the lock; past the end of the day if more is
+    /// left then.
     pub(crate) until: u32,
 }
 
-/// The times of a day at whose start so much was left, in order. The first begins with the day, and takes no time where
-/// nothing was left and nothing arrives.
+/// The busy times of a day at whose start `carry` minutes of runs were left, in order. The first
+/// begins with the day, and is empty if nothing was left.
 pub(crate) fn busy_times(
     alloc: Global,
     arrivals: &[Arrival],

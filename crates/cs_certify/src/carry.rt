@@ -1,30 +1,28 @@
-//! What may be left of the days before when a day begins: the least that no successive days exceed.
+//! What may be left of earlier days when a day begins: the least that no successive days exceed.
 use crate::gains::Arrivals;
 use crate::numbers::{minutes_at, number_at};
 use cs_profile::Facts;
 use std::alloc::{AllocError, Global};
 
-/// As often as this all kinds of days are gone through. Where that doesn't settle what is left, the lock is never free for more
-/// than six days, so that a run waits for it longer than three.
+/// How often all kinds of days are gone through. If that doesn't settle what is left, the lock is
+/// never free for more than six days, so that a run waits for it longer than three.
 const ROUNDS: u8 = 9;
 
-/// Where more is left than this, in minutes, some run waits longer than three days.
+/// If more minutes than this are left, some run waits longer than three days.
 const MOST_LEFT: u32 = 12_960;
 
-/// What is left when days begin, and how it goes on from day to day.
 #[derive(Drop)]
 struct Carries<'a> {
     facts: &'a Facts,
     /// What arrives on the days of each profile.
     arrivals: &'a [Arrivals],
-    /// The place of each kind of days, by number: kinds that have one place are taken to be alike.
+    /// The place of each kind of day, by number. Kinds with one place are taken to be alike.
     places: &'a [u16],
     /// What is left when a day begins, by place.
     left: Vec<u32>,
 }
 
 impl<'a> Carries<'a> {
-    /// What is left when a day of this kind begins.
     fn before(&self, kind: usize) -> u32 {
         minutes_at(
             self.left.as_slice(),
@@ -32,7 +30,6 @@ impl<'a> Carries<'a> {
         )
     }
 
-    /// What is left when a day of this kind ends.
     fn after(&self, kind: usize) -> u32 {
         let profile = number_at(self.facts.profiles(), kind);
         match self.arrivals.get(usize::from(profile)) {
@@ -41,7 +38,8 @@ impl<'a> Carries<'a> {
         }
     }
 
-    /// Takes what each kind of days leaves to those that can come next; whether that is more than was known.
+    /// Passes what each kind of day leaves on to the kinds that can come next. True if that is more
+    /// than was known.
     fn go_on(&mut self) -> bool {
         let mut is_more = false;
         for (kind, next) in self.facts.successors().iter().enumerate() {
@@ -58,8 +56,8 @@ impl<'a> Carries<'a> {
     }
 }
 
-/// The least that may be left when days of each kind begin, by the kind's number, where kinds that have one place are taken to
-/// be alike. `None` where more than 12,960 minutes may be left, or ever more.
+/// The least that may be left when days of each kind begin, by the kind's number, where kinds with
+/// one place are taken to be alike. `None` if more than 12,960 minutes may be left, or ever more.
 pub(crate) fn least_carries(
     alloc: Global,
     facts: &Facts,

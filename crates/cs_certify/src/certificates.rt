@@ -10,8 +10,9 @@ use cs_profile::{Classing, Facts};
 use cs_windows::{JobReach, Window};
 use std::alloc::{AllocError, Global};
 
-/// The stretch of successive days of these classes, eldest first, with the windows that hold minutes of the last of them. Its
-/// tree lists them in this order. The only error is want of memory.
+/// Returns the stretch of successive days of these classes, eldest first, with the windows that
+/// hold minutes of the last of them. Its tree lists them in this order. The only error is out of
+/// memory.
 pub fn stretch(alloc: Global, of: &[u16], windows: &[Window]) -> Result<Stretch, AllocError> {
     let mut classes = Vec::with_capacity(alloc, of.len())?;
     for class in of {
@@ -23,7 +24,7 @@ pub fn stretch(alloc: Global, of: &[u16], windows: &[Window]) -> Result<Stretch,
     })
 }
 
-/// The version that can say this: 1 where no stretch has more than two days and no run goes on for more than a day.
+/// Version 1 can't have stretches of more than two days or runs that go on for more than a day.
 fn version(facts: &Facts, stretches: &[Stretch], reaches: &[JobReach]) -> u8 {
     let mut days = 0;
     for stretch in stretches {
@@ -43,7 +44,6 @@ fn version(facts: &Facts, stretches: &[Stretch], reaches: &[JobReach]) -> u8 {
     }
 }
 
-/// The certificate of these classes, if they could be made.
 pub(crate) fn certified(
     alloc: Global,
     version: u8,
@@ -65,10 +65,11 @@ pub(crate) fn certified(
     Ok(Certificate::new(version, classes, kinds, stretches, reach))
 }
 
-/// The certificate of these classes, of these stretches of their days and of these reaches of jobs that wait. Stretches rise by
-/// length, then in order of the classes, and reaches by job.
+/// Returns the certificate of these classes, of these stretches of their days, and of these reaches
+/// of the jobs that wait. Stretches rise by length, then by classes, and reaches by job.
 ///
-/// The inner error is what no certificate may be, as [`CertFault`] says, and the outer one is want of memory.
+/// The inner error is what no certificate may be, as [`CertFault`] says; the outer one is out of
+/// memory.
 pub fn certificate(
     alloc: Global,
     facts: &Facts,

@@ -1,22 +1,21 @@
-//! On which numbers of which part a day tree is split.
 use crate::grouping::groups_of;
 use crate::kinds::{Classed, NUMBERS, Numbers, Possible, number_in};
 use cs_daytree::KindPart;
 use std::alloc::{AllocError, Global};
 
-/// With so many splits left the numbers of a part are halved: then 4 splits on months, 5 on days
-/// and 3 on weekdays leave one kind, so that a tree never is too deep.
+/// With at most this many splits left, the numbers of a part are halved. Then 4 splits on months, 5
+/// on days and 3 on weekdays leave one kind, so that a tree is never too deep.
 const HALVING_SPLITS: u8 = 12;
 
-/// Of more groups than that none is tried alone.
+/// If there are more groups than this, none is tried alone.
 const MOST_GROUPS: usize = 16;
 
-/// How good a split is: of two the lesser is the better one. First the number of classes inside
-/// and outside together: the less, the fewer stand on both sides. Then those of the side that has
-/// more of them, and then how many numbers the split lists.
+/// How good a split is; the lesser rank is better. First the number of classes inside and outside
+/// together, since the fewer there are, the fewer stand on both sides. Then the number of classes
+/// on the side that has more of them, and then how many numbers the split lists.
 type Rank = (u32, u32, u32);
 
-/// A split: the kinds with one of these numbers there go inside.
+/// A split: the kinds that have one of these numbers in the part go inside.
 #[derive(Clone, Copy)]
 pub(crate) struct Choice {
     pub(crate) part: KindPart,
@@ -39,7 +38,6 @@ pub(crate) struct Tally {
 }
 
 impl Tally {
-    /// A tally of these classes, before any split.
     pub(crate) fn new(alloc: Global, class_of: &[u16]) -> Result<Tally, AllocError> {
         let never = Seen {
             inside: 0,
@@ -56,7 +54,6 @@ impl Tally {
         })
     }
 
-    /// Whether the class is seen for the first time on this side of the split.
     fn is_new(&mut self, class: u16, inside: bool) -> bool {
         let split = self.split;
         let Some(seen) = self.seen.get_mut(usize::from(class)) else {
@@ -71,7 +68,6 @@ impl Tally {
         before != split
     }
 
-    /// The split of these kinds on these numbers of a part.
     fn choice(&mut self, kinds: &[Classed], part: KindPart, numbers: Numbers) -> Choice {
         self.split = self.split.saturating_add(1);
         let mut within: u32 = 0;
@@ -92,7 +88,6 @@ impl Tally {
     }
 }
 
-/// The lower half of the numbers.
 fn half_of(numbers: Numbers) -> Numbers {
     let mut half = Numbers::none();
     for number in 0..NUMBERS {
@@ -103,7 +98,7 @@ fn half_of(numbers: Numbers) -> Numbers {
     half
 }
 
-/// Those of the numbers, or the other possible ones where they are fewer.
+/// The numbers, or the other possible ones if those are fewer.
 fn fewer(numbers: Numbers, possible: Numbers) -> Numbers {
     let others = possible.without(numbers);
     if others.count() < numbers.count() {
@@ -113,8 +108,8 @@ fn fewer(numbers: Numbers, possible: Numbers) -> Numbers {
     }
 }
 
-/// The numbers of a part that a split of these kinds may list, with so many splits left; none
-/// where they needn't be told apart.
+/// The sets of numbers of a part that a split of these kinds may list, with this many splits left.
+/// There is none if the numbers needn't be told apart.
 fn candidates(
     alloc: Global,
     kinds: &[Classed],
@@ -143,8 +138,8 @@ fn candidates(
     Ok(found)
 }
 
-/// The best split of these kinds where these numbers are possible and so many splits are left;
-/// none where they have one class.
+/// The best split of these kinds among the possible numbers, with this many splits left. `None` if
+/// they have one class.
 pub(crate) fn best_choice(
     alloc: Global,
     tally: &mut Tally,

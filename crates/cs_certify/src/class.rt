@@ -1,11 +1,9 @@
-//! What a certificate says of the days of one class.
 use cs_civil::Sequence;
 use cs_claims::{CertError, CertFault, Class, DueList, GroupBacklog};
 use cs_profile::{DayClass, Facts, GroupBound, Task};
 use cs_wait::{Backlog, BadPiece, Piece};
 use std::alloc::{AllocError, Global};
 
-/// The due minutes of these jobs, without those that have none.
 fn due_lists(alloc: Global, facts: &Facts, jobs: &[u16]) -> Result<Sequence<DueList>, AllocError> {
     let mut lists = Sequence::new(alloc);
     for job in jobs {
@@ -20,7 +18,7 @@ fn due_lists(alloc: Global, facts: &Facts, jobs: &[u16]) -> Result<Sequence<DueL
     Ok(lists)
 }
 
-/// The backlog of a group. `BadEntry` where these pieces make none.
+/// The only errors are `BadEntry`, if the pieces make no backlog, and out of memory.
 pub(crate) fn group_backlog(
     alloc: Global,
     group: u8,
@@ -32,7 +30,6 @@ pub(crate) fn group_backlog(
     }
 }
 
-/// The backlogs of these groups, without those that have no piece.
 fn backlogs(alloc: Global, bounds: &[GroupBound]) -> Result<Sequence<GroupBacklog>, CertError> {
     let mut backlogs = Sequence::new(alloc);
     for bound in bounds {
@@ -43,7 +40,6 @@ fn backlogs(alloc: Global, bounds: &[GroupBound]) -> Result<Sequence<GroupBacklo
     Ok(backlogs)
 }
 
-/// What is said of each class.
 pub(crate) fn classes_of(
     alloc: Global,
     facts: &Facts,

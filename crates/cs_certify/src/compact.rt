@@ -1,4 +1,3 @@
-//! Certificates that say only what a plan doesn't.
 ghost use Rattle.std.specs.Prelude.{◌≡◌, IfOk};
 ghost use Rattle.cs_claims.specs.Certificate.{content};
 
@@ -10,7 +9,6 @@ use cs_profile::{Classing, DayClass, GroupBound};
 use cs_windows::JobReach;
 use std::alloc::{AllocError, Global};
 
-/// What is left over for the locks of these groups when a day begins, without those that have nothing left.
 fn carries(alloc: Global, bounds: &[GroupBound]) -> Result<Sequence<GroupBacklog>, CertError> {
     let mut carries = Sequence::new(alloc);
     for bound in bounds {
@@ -23,7 +21,6 @@ fn carries(alloc: Global, bounds: &[GroupBound]) -> Result<Sequence<GroupBacklog
     Ok(carries)
 }
 
-/// What is said of each class.
 fn classes_of(alloc: Global, classes: &[DayClass]) -> Result<Sequence<Class>, CertError> {
     let mut listed = Sequence::new(alloc);
     for class in classes {
@@ -35,10 +32,12 @@ fn classes_of(alloc: Global, classes: &[DayClass]) -> Result<Sequence<Class>, Ce
     Ok(listed)
 }
 
-/// The certificate of version 3 of these classes and of these reaches of jobs that wait, which rise by job: which kinds of days
-/// are alike, and what is left over when a day of each class begins. All else is worked out from the plan where it is checked.
+/// Returns the certificate of version 3 of these classes, and of these reaches of the jobs that
+/// wait, which rise by job. It says only which kinds of days are alike, and what is left over when
+/// a day of each class begins.
 ///
-/// The inner error is what no certificate may be, as [`CertFault`] says, and the outer one is want of memory.
+/// The inner error is what no certificate may be, as [`CertFault`] says; the outer one is out of
+/// memory.
 pub fn compact_certificate(
     alloc: Global,
     classing: &Classing,

@@ -3,24 +3,25 @@ use cs_civil::MINUTES_OF_DAY;
 use cs_windows::Window;
 use std::alloc::{AllocError, Global};
 
-/// How many windows begin to hold minutes of a range at one minute, and how many hold none from it on.
+/// How many windows begin to hold minutes of a range at one minute, and how many hold none from it
+/// on.
 #[derive(Clone, Copy)]
 pub(crate) struct Turn {
     begun: u32,
     ended: u32,
 }
 
-/// A minute at which a range may be cut.
 #[derive(Clone, Copy)]
 pub(crate) struct Cut {
     /// How many windows hold minutes on both sides.
     pub(crate) across: u32,
-    /// By how much one side is longer than the other.
+    /// By how many minutes one side is longer than the other.
     uneven: u16,
     pub(crate) at: u16,
 }
 
-/// The first minute of `[lo, hi)` that a window holds and the one after the last, both counted from `lo`.
+/// The first minute of `[lo, hi)` that a window holds and the one after the last, counted from
+/// `lo`.
 fn held_minutes(window: &Window, lo: u16, hi: u16) -> (u32, u32) {
     let day = u32::from(MINUTES_OF_DAY) * u32::from(window.day_back);
     let start = day + u32::from(lo);
@@ -65,8 +66,8 @@ pub(crate) fn most_at_once(turns: &[Turn]) -> u32 {
     most
 }
 
-/// The cut of `[lo, hi)` in its middle third with the fewest windows across, and of those the one nearest to the middle. It leaves
-/// a minute on both sides.
+/// The cut of `[lo, hi)` in its middle third with the fewest windows across, and of several the one
+/// nearest to the middle. Neither side is empty.
 pub(crate) fn best_cut(turns: &[Turn], lo: u16, hi: u16) -> Option<Cut> {
     let third = (hi.saturating_sub(lo) / 3).max(1);
     let mut held: u32 = 0;

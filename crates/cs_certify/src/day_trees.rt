@@ -4,7 +4,7 @@ use cs_claims::MAX_DEPTH;
 use cs_daytree::DayTree;
 use std::alloc::{AllocError, Global};
 
-/// The class of the first of these kinds, or 0 where no day has such a kind; and whether all of them have it.
+/// The class of the first of these kinds, or 0 if there is none, and whether all of them have it.
 fn class_of(kinds: &[Classed]) -> (u16, bool) {
     let first = match kinds.first() {
         Some(first) => first.class,
@@ -18,7 +18,6 @@ fn class_of(kinds: &[Classed]) -> (u16, bool) {
     (first, true)
 }
 
-/// The kinds on one side of a split, in order.
 fn on_side(
     alloc: Global,
     kinds: &[Classed],
@@ -34,7 +33,7 @@ fn on_side(
     Ok(kept)
 }
 
-/// A tree of so many splits above one another at most that gives these kinds their classes, where these numbers are possible.
+/// A tree, at most this many splits deep, that gives these kinds their classes.
 fn tree_of(
     alloc: Global,
     tally: &mut Tally,
@@ -65,10 +64,11 @@ fn tree_of(
     })
 }
 
-/// A day tree that gives each kind of day its class. The classes are given by the kinds' numbers, in the order of
+/// Returns a day tree that gives each kind of day its class. The classes are in the order of
 /// [`all_kinds`](cs_civil::all_kinds).
 ///
-/// It is made to have few leaves. Its depth is at most 24, and each of its splits is possible. The only error is want of memory.
+/// The tree is made to have few leaves. It is at most 24 deep, and each of its splits is possible.
+/// The only error is out of memory.
 pub fn day_tree(alloc: Global, class_of: &[u16]) -> Result<DayTree, AllocError> {
     let kinds = all_classed(alloc, class_of)?;
     let mut tally = Tally::new(alloc, class_of)?;

@@ -9,11 +9,14 @@ use std::alloc::{AllocError, Global};
 
 /// How long runs that wait for a lock may really go on, day by day of a calendar.
 ///
-/// A run that begins in minute s has ended before s and its longest time, so the next holder begins a minute before that at the
-/// latest: each link of a chain of runs loses a minute against the bounds of a certificate. What is told here comes about in some
-/// history of the plan, as long as no run of mode skip finds the lock held. Runs that share a lock may wait for longer than is
-/// told, and others for them: here they wait for all that are alone with it, and nothing waits for them. So may runs that wait
-/// beside one of mode try: here it gets the lock when it is due, and of those due before it only the run in question waits on.
+/// A run that begins in minute `s` has ended before `s` plus its longest time, so the next holder
+/// begins a minute before that at the latest: each link of a chain of runs loses a minute against
+/// the bounds of a certificate. Each wait that is given here occurs in some history of the plan,
+/// unless a run of mode skip finds the lock held.
+///
+/// Some waits may be longer than is given. Runs that share a lock are taken to wait for all that
+/// hold it alone, and to keep nobody waiting. A run of mode try is taken to get the lock when it is
+/// due, and of the runs due before it, only the one in question to wait past it.
 #[derive(Drop)]
 pub struct ExactWaits<'a> {
     facts: &'a Facts,
@@ -21,10 +24,10 @@ pub struct ExactWaits<'a> {
     queues: Vec<Queue>,
 }
 
-/// The profiles of up to four successive days, with one that is no day's in the place of those that lack.
+/// The profiles of up to four successive days. The places of missing days have a profile that no
+/// day has.
 type Profiles = [u16; 4];
 
-/// The profiles of so many days from this place on.
 fn profiles_from(profiles: &[u16], first: usize, length: usize) -> Profiles {
     let mut found = [u16::MAX; 4];
     for (place, profile) in found.iter_mut().enumerate() {
@@ -38,10 +41,12 @@ fn profiles_from(profiles: &[u16], first: usize, length: usize) -> Profiles {
     found
 }
 
-/// The places of first days whose profiles are the same, of which no one's locks are all free by when another's are.
+/// Places of first days of stretches with the same profiles. No day is among them whose locks are
+/// all free no later than another's.
 type Firsts = Vec<usize>;
 
-/// The window of a run on the last of so many days, if it waits and is on it.
+/// The window of a run on the last of `length` days, if the run waits and the window reaches that
+/// day.
 fn window_of(facts: &Facts, run: &QueuedRun, length: u8) -> Option<Window> {
     let task = facts.tasks().get(usize::from(run.job))?;
     let place = u8::try_from(run.due / MINUTES_OF_DAY).ok()?;
@@ -60,7 +65,7 @@ fn window_of(facts: &Facts, run: &QueuedRun, length: u8) -> Option<Window> {
 }
 
 impl<'a> ExactWaits<'a> {
-    /// The waits of a plan, over a calendar of it. The only error is want of memory.
+    /// Returns the waits of a plan over its calendar. The only error is out of memory.
     pub fn of(
         alloc: Global,
         facts: &'a Facts,
@@ -79,7 +84,7 @@ impl<'a> ExactWaits<'a> {
         })
     }
 
-    /// Whether each lock is free on one day by the minute from which on it is free on the other.
+    /// Whether each lock is free on one day no later than on the other.
     fn is_within(&self, one: usize, other: usize) -> bool {
         for queue in self.queues.as_slice() {
             if queue.free_on(one) > queue.free_on(other) {
@@ -89,7 +94,6 @@ impl<'a> ExactWaits<'a> {
         true
     }
 
-    /// Adds one more day to those whose profiles are the same.
     fn add(&self, firsts: &mut Firsts, first: usize) -> Result<(), AllocError> {
         for other in firsts.as_slice() {
             if self.is_within(first, *other) {
@@ -101,7 +105,6 @@ impl<'a> ExactWaits<'a> {
         Ok(())
     }
 
-    /// The first days of so many, sorted by the profiles of all of them.
     fn firsts(&self, alloc: Global, length: usize) -> Result<Vec<Firsts>, AllocError> {
         let profiles = self.calendar.profiles();
         let mut seen = IndexSet::new(alloc);
@@ -118,9 +121,10 @@ impl<'a> ExactWaits<'a> {
         Ok(sorted)
     }
 
-    /// The last days of stretches of so many days, up to four, that are worth a look, rising, as days since 1970-01-01: where
-    /// two stretches have the same profiles, and each lock is free for the first of the one by when it is for that of the other,
-    /// the one is left out. The only error is want of memory.
+    /// Returns the last days of the stretches of this many days, up to four, that are worth a look,
+    /// rising, as days since 1970-01-01. Of two stretches with the same profiles, one is ignored if
+    /// on its first day each lock is free no later than on the other's. The only error is out of
+    /// memory.
     pub fn last_days(&self, alloc: Global, length: u8) -> Result<Vec<u64>, AllocError> {
         let firsts = self.firsts(alloc, usize::from(length))?;
         let after = self.calendar.day_at(usize::from(length)).saturating_sub(1);
@@ -134,8 +138,9 @@ impl<'a> ExactWaits<'a> {
         Ok(days)
     }
 
-    /// The windows of jobs that wait, on the last of so many days, up to four, that end with this one: of each run that is due on
-    /// one of them, from its due minute to the last in which it may go on. They are in no order. The only error is want of memory.
+    /// Returns the windows of jobs that wait, on the last of `length` days, up to four, of which
+    /// the last is this one: for each run that is due on one of them, from its due minute to the
+    /// last in which it may go on. They are in no order. The only error is out of memory.
     pub fn windows(
         &self,
         alloc: Global,
@@ -160,8 +165,9 @@ impl<'a> ExactWaits<'a> {
         Ok(windows)
     }
 
-    /// The windows of the stretch of so many days that ends with this day, each of a job that waits cut to what it really can be,
-    /// and left out where it isn't on the last day any more. They stay in their order. The only error is want of memory.
+    /// Returns the windows of the stretch of `length` days that ends with this day, in their order,
+    /// where each of a job that waits is cut to what it really can be. One that then doesn't reach
+    /// the last day is dropped. The only error is out of memory.
     pub fn cut(
         &self,
         alloc: Global,

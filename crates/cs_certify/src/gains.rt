@@ -1,8 +1,8 @@
-//! What arrives for the lock of a group on the days of each profile, and what that leaves for the day after.
+//! What arrives for the lock of a group on the days of each profile, and what that leaves for the
+//! day after.
 use cs_profile::{Facts, Task};
 use std::alloc::{AllocError, Global};
 
-/// How many minutes a day has.
 pub(crate) const MINUTES_OF_DAY: u32 = cs_civil::MINUTES_OF_DAY as u32;
 
 /// Runs that are due at one minute and take the lock of a group.
@@ -10,12 +10,12 @@ pub(crate) const MINUTES_OF_DAY: u32 = cs_civil::MINUTES_OF_DAY as u32;
 pub(crate) struct Arrival {
     /// The minute of the day.
     pub(crate) minute: u32,
-    /// How long they take together, one after the other, in minutes.
+    /// How many minutes they take together, one after the other.
     pub(crate) work: u32,
 }
 
 impl Arrival {
-    /// From when on the lock is free, if it was to be free from `free` on before these came.
+    /// From which minute on the lock is free, if it would be free from `free` on without these.
     pub(crate) fn free_after(&self, free: u32) -> u32 {
         free.max(self.minute).saturating_add(self.work)
     }
@@ -24,33 +24,30 @@ impl Arrival {
 /// What arrives for the lock of a group on the days of a profile.
 #[derive(Drop)]
 pub(crate) struct Arrivals {
-    /// By minute, rising; minutes at which nothing arrives aren't there.
+    /// By minute, rising. Minutes at which nothing arrives are missing.
     pub(crate) list: Vec<Arrival>,
-    /// How long all of it takes together.
+    /// How many minutes all of it takes together.
     work: u32,
     /// What is left of it when the day ends, if nothing was left from the day before.
     rest: u32,
 }
 
 impl Arrivals {
-    /// What is left when a day ends at whose start so much was left.
+    /// What is left when a day ends, if `carry` was left when it began.
     pub(crate) fn left(&self, carry: u32) -> u32 {
         let through = carry.saturating_add(self.work);
         through.saturating_sub(MINUTES_OF_DAY).max(self.rest)
     }
 }
 
-/// Whether runs of the job take the lock of the group.
 pub(crate) fn takes_lock_of(task: &Task, group: u8) -> bool {
     task.is_cron && task.mode.takes_lock() && task.group == Some(group)
 }
 
-/// Whether runs of the job wait for the lock of the group.
 pub(crate) fn waits_for(task: &Task, group: u8) -> bool {
     task.is_cron && task.mode.waits() && task.group == Some(group)
 }
 
-/// Whether runs of any job wait for the lock of the group.
 pub(crate) fn is_waited_for(facts: &Facts, group: u8) -> bool {
     for task in facts.tasks() {
         if waits_for(task, group) {
@@ -60,7 +57,6 @@ pub(crate) fn is_waited_for(facts: &Facts, group: u8) -> bool {
     false
 }
 
-/// What arrives at each minute of a day on which these jobs are due.
 fn work_by_minute(
     alloc: Global,
     tasks: &[Task],
@@ -82,7 +78,6 @@ fn work_by_minute(
     Ok(work)
 }
 
-/// What arrives on a day on which these jobs are due.
 fn arrivals_of(
     alloc: Global,
     tasks: &[Task],
@@ -111,7 +106,6 @@ fn arrivals_of(
     })
 }
 
-/// What arrives for the lock of a group on the days of each profile.
 pub(crate) fn arrivals_by_profile(
     alloc: Global,
     facts: &Facts,

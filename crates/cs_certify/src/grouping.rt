@@ -1,4 +1,3 @@
-//! Which numbers of a part of a kind needn't be told apart.
 use crate::kinds::{Classed, NUMBERS, Numbers, number_in};
 use cs_civil::DayKind;
 use cs_daytree::KindPart;
@@ -7,15 +6,15 @@ use std::alloc::{AllocError, Global};
 /// The places of kinds among those that are alike in one part are below this.
 const PLACES: usize = 404;
 
-/// Numbers of a part whose kinds have the same classes where the other two parts are the same. A number whose kind there is no
-/// day of agrees with any.
+/// Numbers of a part whose kinds have the same classes where the other two parts are the same. A
+/// number agrees with any if no day has its kind.
 #[derive(Drop)]
 struct Group {
     numbers: Numbers,
     classes: Vec<Option<u16>>,
 }
 
-/// The place of a kind among those that have the same number there.
+/// The place of a kind among those that have the same number in the part.
 fn place_in(kind: DayKind, part: KindPart) -> usize {
     let month = usize::from(kind.month());
     let day = usize::from(kind.dom());
@@ -28,7 +27,8 @@ fn place_in(kind: DayKind, part: KindPart) -> usize {
 }
 
 impl Group {
-    /// Whether the class of each of these kinds is that of the group's, where it has one.
+    /// Whether each of these kinds has the class that the group has at its place, if it has one
+    /// there.
     fn agrees(&self, part: KindPart, kinds: &[Classed]) -> bool {
         for classed in kinds {
             if let Some(Some(class)) = self.classes.get(place_in(classed.kind, part)) {
@@ -40,7 +40,6 @@ impl Group {
         true
     }
 
-    /// Takes a number in, which has these kinds.
     fn take(&mut self, number: u8, part: KindPart, kinds: &[Classed]) {
         self.numbers = self.numbers.with(number);
         for classed in kinds {
@@ -51,7 +50,7 @@ impl Group {
     }
 }
 
-/// Takes a number, which has these kinds, into the first group that agrees, or into one of its own.
+/// Takes a number into the first group that agrees, or into one of its own.
 fn take_in(
     alloc: Global,
     groups: &mut Vec<Group>,
@@ -74,8 +73,8 @@ fn take_in(
     Ok(())
 }
 
-/// The possible numbers of a part of these kinds, by groups that needn't be told apart. Where each part has one group alone, all
-/// kinds have one class.
+/// The possible numbers of a part of these kinds, in groups that needn't be told apart. If each
+/// part has only one group, all kinds have one class.
 pub(crate) fn groups_of(
     alloc: Global,
     kinds: &[Classed],

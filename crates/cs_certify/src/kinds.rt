@@ -1,4 +1,5 @@
-//! Kinds of days with their classes, and the numbers that the splits above a tree leave for each part of a kind.
+//! Kinds of days with their classes, and the numbers that the splits above a tree leave for each
+//! part of a kind.
 use cs_civil::{DayKind, Sequence, all_kinds};
 use cs_daytree::KindPart;
 use std::alloc::{AllocError, Global};
@@ -6,14 +7,12 @@ use std::alloc::{AllocError, Global};
 /// No part of a kind has a number from this one on.
 pub(crate) const NUMBERS: u8 = 32;
 
-/// A kind of day and its class.
 #[derive(Clone, Copy)]
 pub(crate) struct Classed {
     pub(crate) kind: DayKind,
     pub(crate) class: u16,
 }
 
-/// All kinds with their classes, which are given by number.
 pub(crate) fn all_classed(alloc: Global, class_of: &[u16]) -> Result<Vec<Classed>, AllocError> {
     let mut classed = Vec::with_capacity(alloc, class_of.len())?;
     for (kind, class) in all_kinds().zip(class_of) {
@@ -25,7 +24,6 @@ pub(crate) fn all_classed(alloc: Global, class_of: &[u16]) -> Result<Vec<Classed
     Ok(classed)
 }
 
-/// The number that a kind has there.
 pub(crate) fn number_in(kind: DayKind, part: KindPart) -> u8 {
     match part {
         KindPart::Month => kind.month(),
@@ -34,55 +32,47 @@ pub(crate) fn number_in(kind: DayKind, part: KindPart) -> u8 {
     }
 }
 
-/// Numbers of one part, below 32: each is a bit.
+/// Numbers of one part, below 32, each as a bit.
 #[derive(Clone, Copy)]
 pub(crate) struct Numbers {
     bits: u32,
 }
 
-/// The bit of a number.
 fn bit(number: u8) -> u32 {
     1u32.checked_shl(u32::from(number)).unwrap_or(0)
 }
 
 impl Numbers {
-    /// None.
     pub(crate) fn none() -> Numbers {
         Numbers { bits: 0 }
     }
 
-    /// How many.
     pub(crate) fn count(self) -> u32 {
         self.bits.count_ones()
     }
 
-    /// Whether this is one of them.
     pub(crate) fn has(self, number: u8) -> bool {
         self.bits & bit(number) != 0
     }
 
-    /// These and one more.
     pub(crate) fn with(self, number: u8) -> Numbers {
         Numbers {
             bits: self.bits | bit(number),
         }
     }
 
-    /// These and those.
     pub(crate) fn with_all(self, others: Numbers) -> Numbers {
         Numbers {
             bits: self.bits | others.bits,
         }
     }
 
-    /// These without those.
     pub(crate) fn without(self, others: Numbers) -> Numbers {
         Numbers {
             bits: self.bits & !others.bits,
         }
     }
 
-    /// These, rising.
     pub(crate) fn rising(self, alloc: Global) -> Result<Sequence<u8>, AllocError> {
         let mut rising = Vec::new(alloc);
         for number in 0..NUMBERS {
@@ -94,7 +84,6 @@ impl Numbers {
     }
 }
 
-/// The numbers from the first to the last.
 fn from_to(first: u8, last: u8) -> Numbers {
     let mut numbers = Numbers::none();
     for number in first..=last {
@@ -103,7 +92,7 @@ fn from_to(first: u8, last: u8) -> Numbers {
     numbers
 }
 
-/// The numbers that splits leave for each part.
+/// The numbers that the splits above leave for each part.
 #[derive(Clone, Copy)]
 pub(crate) struct Possible {
     months: Numbers,
@@ -112,7 +101,6 @@ pub(crate) struct Possible {
 }
 
 impl Possible {
-    /// All numbers.
     pub(crate) fn all() -> Possible {
         Possible {
             months: from_to(1, 12),
@@ -121,7 +109,6 @@ impl Possible {
         }
     }
 
-    /// Those of a part.
     pub(crate) fn of(self, part: KindPart) -> Numbers {
         match part {
             KindPart::Month => self.months,
@@ -130,7 +117,6 @@ impl Possible {
         }
     }
 
-    /// The same, but these of a part.
     pub(crate) fn only(self, part: KindPart, numbers: Numbers) -> Possible {
         match part {
             KindPart::Month => Possible {

@@ -3,21 +3,24 @@ use crate::gains::MINUTES_OF_DAY;
 use crate::queue::{Queue, QueuedRun, line_up};
 use std::alloc::{AllocError, Global};
 
-/// What comes behind a run in a queue.
+/// What comes after a run in a queue.
 #[derive(Clone, Copy)]
 struct Behind {
     /// When the next run is due.
     due: u32,
-    /// When that one has had the lock, if it is of mode try and gets it.
+    /// When that run has had the lock, if it is of mode try and gets it.
     tried: Option<u32>,
-    /// When a run has the lock that waits on behind all that can be before it. The queue up to here has it, and is longer by it.
+    /// When a run that waits for all that can be before it has the lock, if the queue up to here
+    /// has that run in it, and is longer by it.
     last: u32,
-    /// The same, where the queue up to here isn't longer by it: since it was due a run of mode try has had the lock.
+    /// The same, if the queue up to here isn't longer by it, because a run of mode try has had the
+    /// lock since it was due.
     last_tried: u32,
 }
 
 impl Behind {
-    /// What comes behind the run before this one. The run that waits on keeps the lock for so long.
+    /// What comes after the run before this one. The run that waits keeps the lock for `work`
+    /// minutes.
     fn before(self, run: QueuedRun, work: u32) -> Behind {
         let free = run.free.saturating_sub(work);
         let goes_on = match self.tried {
@@ -37,8 +40,8 @@ impl Behind {
     }
 }
 
-/// Puts each run that keeps the lock for so long behind all that can be before it: it waits on as long as another is due by the
-/// minute at which the others have had the lock.
+/// Lets each run that keeps the lock for `work` minutes wait for all that can be before it: while
+/// another is due by the minute at which the others have had the lock, it waits.
 fn put_last(runs: &mut [QueuedRun], work: u32) {
     let mut behind = Behind {
         due: u32::MAX,
@@ -54,8 +57,8 @@ fn put_last(runs: &mut [QueuedRun], work: u32) {
     }
 }
 
-/// The runs on successive days of these profiles, with the latest minute at which each that waits has the lock, where it is free
-/// for the first of them from this minute of the first day on.
+/// The runs on successive days of these profiles, with the latest minute at which each that waits
+/// has the lock. The lock is free for the first of them from minute `free` of the first day on.
 pub(crate) fn latest_starts(
     alloc: Global,
     queue: &Queue,

@@ -10,13 +10,12 @@ use std::alloc::{AllocError, Global};
 /// Bounds on what waits for the locks of groups, and the reaches that they give the jobs that wait.
 #[derive(Drop)]
 pub struct Bounds {
-    /// The reach of each job that waits, by number.
+    /// The reach of each job that waits, by the job's number.
     pub reaches: Vec<JobReach>,
     /// Classes of days, with the bounds of each group that a job waits for.
     pub classing: Classing,
 }
 
-/// For how long runs of a job may go on.
 fn longest_of(locks: &[Lock], job: usize) -> Longest {
     let mut longest = Longest::NONE;
     for lock in locks {
@@ -27,7 +26,6 @@ fn longest_of(locks: &[Lock], job: usize) -> Longest {
     longest
 }
 
-/// Whether a job of the crontab is due on any day.
 fn is_ever_due(facts: &Facts, job: usize) -> bool {
     for due in facts.due() {
         for other in due.as_slice() {
@@ -39,7 +37,7 @@ fn is_ever_due(facts: &Facts, job: usize) -> bool {
     false
 }
 
-/// When the last window of a job ends, counted from the start of the day on which it begins.
+/// When the last window of a job ends, in minutes from the start of the day on which it begins.
 fn end_of(plan: &Plan, facts: &Facts, locks: &[Lock], job: usize, task: &Task) -> u32 {
     if !task.is_cron {
         return u32::from(plan.hours().to())
@@ -60,11 +58,12 @@ fn end_of(plan: &Plan, facts: &Facts, locks: &[Lock], job: usize, task: &Task) -
     lasts.saturating_add(u32::from(*minute))
 }
 
-/// The reach of each job that waits. `None` where one is over three days.
+/// The reach of each job that waits. `None` if one is over three days.
 ///
-/// By the minute at which the last window of all jobs ends, counted from the start of the day on which it begins, stretches are
-/// looked through, of two days at least, but not for a minute past the last of them: what is free only then needs a day more,
-/// and so a minute more.
+/// The length of the stretches, two days at least, follows from the minute at which the last window
+/// of all jobs ends, counted from the start of the day on which it begins. A lock that is free only
+/// at the minute after a stretch isn't seen to be free: the stretch has to be a day longer, and so
+/// the reach a minute.
 fn reaches(
     alloc: Global,
     plan: &Plan,
@@ -94,13 +93,16 @@ fn reaches(
     Ok(Some(reaches))
 }
 
-/// The least bounds on what waits for the locks of groups, over all days, and the least reaches that they give the jobs that
-/// wait: a run waits at most until all that is due up to then has had the lock, each for its longest time. Classes are days of
-/// one profile where no reach is longer for it, else those too at whose start as much is left of the days before. Where no job
-/// waits, they are the profiles, and there is no reach.
+/// Returns the least bounds on what waits for the locks of groups, over all days, and the least
+/// reaches that they give the jobs that wait: a run waits at most until all that is due up to then
+/// has had the lock, each for its longest time.
 ///
-/// `None` where there are none: more is due than the lock has time for, or a run may wait for more than 4,320 minutes. The only
-/// error is want of memory.
+/// Classes are days of one profile, if that makes no reach longer; else days of one profile at
+/// whose start as much is left of earlier days. If no job waits, they are the profiles, and there
+/// are no reaches.
+///
+/// `None` if there are no bounds: more is due than the lock has time for, or a run may wait for
+/// more than 4,320 minutes. The only error is out of memory.
 pub fn least_bounds(
     alloc: Global,
     plan: &Plan,

@@ -1,4 +1,4 @@
-//! Certificates for a plan: bounds on what waits for a lock, then classes and windows.
+//! Makes certificates: the least bounds on what waits for a lock, and trees of days and windows.
 #![tactic(auto)]
 
 mod busy;

@@ -1,4 +1,3 @@
-//! What is known of each lock that jobs wait for.
 use crate::carry::least_carries;
 use crate::gains::{Arrivals, arrivals_by_profile, is_waited_for};
 use crate::reaches::{Longest, longest_waits};
@@ -9,7 +8,6 @@ use std::alloc::{AllocError, Global};
 /// The greatest reach of a certificate, in minutes.
 pub(crate) const MOST_REACH: u32 = 4_320;
 
-/// The lock of a group that jobs wait for.
 #[derive(Drop)]
 pub(crate) struct Lock {
     pub(crate) group: u8,
@@ -17,12 +15,12 @@ pub(crate) struct Lock {
     pub(crate) arrivals: Vec<Arrivals>,
     /// What may be left when days of each kind begin, by the kind's number.
     pub(crate) carries: Vec<u32>,
-    /// For how long runs of the jobs may go on that wait for it, by the job's number.
+    /// How long runs of the jobs that wait for it may go on, by the job's number.
     pub(crate) longest: Vec<Longest>,
 }
 
-/// What is left when days of each profile begin, by the kind's number, if it is no more than that for which these are the
-/// longest waits.
+/// What is left when days of each kind begin, by the kind's number, with days of one profile taken
+/// to be alike. `None` if that changes the longest waits.
 fn coarse_carries(
     alloc: Global,
     facts: &Facts,
@@ -41,8 +39,9 @@ fn coarse_carries(
     }
 }
 
-/// The lock of this group. `None` where what waits for it has no bound, or a run waits for longer than three days. Days of one
-/// profile are taken to be alike where no reach is longer for it. `kinds` are the numbers of all kinds.
+/// The lock of this group. `None` if what waits for it has no bound, or a run waits for longer than
+/// three days. Days of one profile are taken to be alike if that makes no reach longer. `kinds` are
+/// the numbers of all kinds.
 fn lock_of(
     alloc: Global,
     facts: &Facts,
@@ -68,8 +67,8 @@ fn lock_of(
     }))
 }
 
-/// The locks that jobs wait for, by group. `None` where one of them has no bound, or none by which runs wait for at most three
-/// days.
+/// The locks that jobs wait for, by group. `None` if one has no bound by which runs wait for at
+/// most three days.
 pub(crate) fn locks(alloc: Global, facts: &Facts) -> Result<Option<Vec<Lock>>, AllocError> {
     let mut kinds = Vec::new(alloc);
     for kind in 0..facts.kinds().len() {

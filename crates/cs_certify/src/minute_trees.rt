@@ -4,16 +4,17 @@ use cs_claims::MAX_ENTRIES;
 use cs_windows::{Entry, MinuteTree, Window, touches};
 use std::alloc::{AllocError, Global};
 
-/// A leaf of so many entries isn't split.
+/// A leaf with at most this many entries isn't split.
 const SHORT_LEAF: usize = 64;
 
-/// A longer one that may stand isn't split either where more than one window of so many would be listed on both sides.
+/// Nor is a longer one that may stand, if more than one of this many windows would be listed on
+/// both sides.
 const ONE_ACROSS_OF: usize = 8;
 
-/// Each side of a cut has two thirds of the minutes at most, so after so many of them a range is one minute of the day.
+/// Each side of a cut has at most two thirds of the minutes, so that after this many cuts a range
+/// is one minute.
 const MOST_CUTS: u8 = 18;
 
-/// The leaf that lists these windows.
 fn leaf(alloc: Global, windows: &[Window]) -> Result<MinuteTree, AllocError> {
     let mut entries = Vec::with_capacity(alloc, windows.len())?;
     for window in windows {
@@ -26,7 +27,6 @@ fn leaf(alloc: Global, windows: &[Window]) -> Result<MinuteTree, AllocError> {
     Ok(MinuteTree::Leaf(Sequence::from_vec(entries)))
 }
 
-/// Those of the windows that hold a minute of `[lo, hi)`, in order.
 fn touching(
     alloc: Global,
     windows: &[Window],
@@ -42,7 +42,7 @@ fn touching(
     Ok(held)
 }
 
-/// Where a tree over `[lo, hi)` whose leaves list these windows is split, if it isn't to be a leaf.
+/// Where a tree over `[lo, hi)` with these windows is split, or `None` if it is to be a leaf.
 fn split_at(
     alloc: Global,
     windows: &[Window],
@@ -62,7 +62,8 @@ fn split_at(
     }
 }
 
-/// The tree over `[lo, hi)` whose leaves list these windows, all of which touch the range, split so often at most.
+/// The tree over `[lo, hi)`, at most this many cuts deep, whose leaves list these windows, all of
+/// which touch the range.
 fn tree_over(
     alloc: Global,
     windows: &[Window],
@@ -87,11 +88,13 @@ fn tree_over(
     })
 }
 
-/// A tree over the minutes of a day each of whose leaves lists every window that touches its range, in the order given.
+/// Returns a tree over the minutes of a day each of whose leaves lists every window that touches
+/// its range, in the order given.
 ///
-/// Windows that one leaf may list stand in a leaf of the whole day, which is shortest as text and is gone through once by
-/// [`covers`](MinuteTree::covers). Of more windows the tree is made to be short as text and to have short leaves. Where more than
-/// 4,096 windows hold one minute no certificate can list them: all are then in one leaf. The only error is want of memory.
+/// If one leaf may list all windows, they stand in a leaf of the whole day, which is shortest as
+/// text and which [`covers`](MinuteTree::covers) goes through once. Else the tree is made to be
+/// short as text and to have short leaves. If more than 4,096 windows hold one minute, no
+/// certificate can list them, and all are in one leaf. The only error is out of memory.
 pub fn minute_tree(alloc: Global, windows: &[Window]) -> Result<MinuteTree, AllocError> {
     let held = touching(alloc, windows, 0, MINUTES_OF_DAY)?;
     if held.len() <= MAX_ENTRIES {

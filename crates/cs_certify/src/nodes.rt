@@ -1,4 +1,3 @@
-//! The classes of a certificate to be: days of one profile, at whose start as much is left of the days before.
 use crate::lock::Lock;
 use crate::numbers::{first_places, minutes_at, number_at, told_apart};
 use crate::pieces::pieces;
@@ -30,7 +29,8 @@ fn bounds_on(
     Ok(bounds)
 }
 
-/// The classes that the bounds of these locks give the days: the profiles where nothing else tells days apart.
+/// The classes of days of one profile at whose start as much is left of earlier days: the profiles,
+/// if nothing else tells days apart.
 pub(crate) fn classing(
     alloc: Global,
     facts: &Facts,

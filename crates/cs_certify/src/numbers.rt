@@ -1,19 +1,16 @@
-//! Lists of numbers of days and kinds.
 use indexmap::IndexSet;
 use std::alloc::{AllocError, Global};
 
-/// The number at a place.
 pub(crate) fn number_at(numbers: &[u16], place: usize) -> u16 {
     numbers.get(place).copied().unwrap_or(0)
 }
 
-/// The minutes at a place.
 pub(crate) fn minutes_at(minutes: &[u32], place: usize) -> u32 {
     minutes.get(place).copied().unwrap_or(0)
 }
 
-/// Numbers for what has a number already, told apart by what is left too: two kinds have the same one exactly where both are
-/// the same. They are numbered from 0, as they come first.
+/// New numbers for kinds: two have the same exactly if they had the same, and as much is left. They
+/// are numbered from 0, in order of their first place.
 pub(crate) fn told_apart(
     alloc: Global,
     numbers: &[u16],
@@ -28,7 +25,8 @@ pub(crate) fn told_apart(
     Ok(finer)
 }
 
-/// The number of the first kind that has each of these numbers, which are counted from 0 as they come first.
+/// The first kind that has each of these numbers, which are counted from 0 in order of their first
+/// place.
 pub(crate) fn first_places(alloc: Global, numbers: &[u16]) -> Result<Vec<usize>, AllocError> {
     let mut first = Vec::new(alloc);
     for (place, number) in numbers.iter().enumerate() {

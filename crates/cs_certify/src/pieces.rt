@@ -1,9 +1,8 @@
-//! Bounds in pieces.
 use crate::gains::{Arrival, MINUTES_OF_DAY};
 use cs_wait::Piece;
 use std::alloc::{AllocError, Global};
 
-/// Adds a piece from this minute of the day on, if it is one and something is left.
+/// Adds a piece from this minute of the day on, if the minute is one and something is left.
 fn add_piece(pieces: &mut Vec<Piece>, minute: u32, value: u32) -> Result<(), AllocError> {
     if minute < MINUTES_OF_DAY && value > 0 {
         pieces.push(Piece {
@@ -14,7 +13,8 @@ fn add_piece(pieces: &mut Vec<Piece>, minute: u32, value: u32) -> Result<(), All
     Ok(())
 }
 
-/// The bound on what waits or runs on a day at whose start so much was left: a piece where it rises.
+/// The bound on what waits or runs on a day at whose start `carry` was left: a piece wherever it
+/// rises.
 pub(crate) fn pieces(
     alloc: Global,
     arrivals: &[Arrival],

@@ -3,21 +3,22 @@ use crate::gains::{MINUTES_OF_DAY, takes_lock_of, waits_for};
 use cs_profile::{Calendar, Facts, Task};
 use std::alloc::{AllocError, Global};
 
-/// From when on the lock is free is followed no further than this many minutes.
+/// When the lock is free is followed no further ahead than this many minutes.
 const MOST_AHEAD: u32 = 11_520;
 
-/// A run that takes the lock of a group.
 #[derive(Clone, Copy)]
 pub(crate) struct QueuedRun {
     pub(crate) job: u16,
     /// The minute at which it is due, from the start of the day, or of the first of some days.
     pub(crate) due: u32,
-    /// For how many minutes it keeps the lock from the next: one less than its longest time, since the next begins in the
-    /// minute in which it ends. A run that shares the lock keeps it from nobody: it is to wait until the others have had it.
+    /// For how many minutes it keeps the lock from the next: one less than its longest time, since
+    /// the next begins in the minute in which it ends. A run that shares the lock keeps it from
+    /// nobody, and waits until the others have had it.
     pub(crate) work: u32,
-    /// Whether it is of mode try: it has the lock from its due minute on, as those before it have ended by then, or never.
+    /// Whether it is of mode try: it has the lock from its due minute on, if the runs before it
+    /// have ended by then, or never.
     pub(crate) is_tried: bool,
-    /// When the next has the lock, if all that are due up to this one have had it before that can.
+    /// When the next run has the lock, if all that are due up to this one have it first.
     pub(crate) free: u32,
     /// When it has the lock at the latest.
     pub(crate) start: u32,
@@ -33,8 +34,8 @@ impl QueuedRun {
         }
     }
 
-    /// When the next has the lock, if those before this one leave it free from this minute on. A run of mode try is left out if
-    /// they keep it for longer.
+    /// When the next run has the lock, if those before this one leave it free from minute `free`
+    /// on. A run of mode try doesn't count if they keep the lock for longer.
     fn free_after(self, free: u32) -> u32 {
         match self.tried() {
             Some(tried) => free.max(tried),
@@ -43,29 +44,27 @@ impl QueuedRun {
     }
 }
 
-/// Who takes the lock on the days of a profile.
 #[derive(Drop)]
 pub(crate) struct QueueDay {
     /// By the minute at which they are due, those of mode try before others.
     pub(crate) runs: Vec<QueuedRun>,
-    /// For how long they keep the lock together, where those of mode try don't get it.
+    /// For how many minutes they keep the lock together, if those of mode try don't get it.
     work: u32,
-    /// From when on it is free, if it is when the day begins.
+    /// From which minute on the lock is free, if it is free when the day begins.
     free: u32,
 }
 
-/// Who takes the lock of a group for which jobs wait.
 #[derive(Drop)]
 pub(crate) struct Queue {
     /// By profile.
     days: Vec<QueueDay>,
-    /// From when on the lock is free on each day of the calendar, in minutes of that day, for all that was due before.
+    /// From which minute of the day on the lock is free, for all that was due before, on each day
+    /// of the calendar.
     free: Vec<u32>,
-    /// For how long runs that wait for it may keep it from the next, each once.
+    /// For how many minutes runs that wait for the lock may keep it from the next, each once.
     pub(crate) works: Vec<u32>,
 }
 
-/// For how many minutes runs of a job keep the lock from the next.
 pub(crate) fn work_of(task: &Task) -> u32 {
     if task.mode.shares() {
         return 0;
@@ -73,8 +72,8 @@ pub(crate) fn work_of(task: &Task) -> u32 {
     u32::from(task.max).saturating_sub(1)
 }
 
-/// The runs on a day on which these jobs are due that take the lock of the group, by the minute at which they are due, those of
-/// mode try before others.
+/// The runs that take the lock of the group on a day on which these jobs are due, by the minute at
+/// which they are due, those of mode try before others.
 fn runs_on(
     alloc: Global,
     tasks: &[Task],
@@ -103,8 +102,8 @@ fn runs_on(
     Ok(runs)
 }
 
-/// Lets all of these runs have the lock one after the other that can, from the minute on at which it is free for them. When it
-/// is free after them.
+/// Lets the runs have the lock one after the other, from minute `free` on, and returns when it is
+/// free after them.
 pub(crate) fn line_up(runs: &mut [QueuedRun], free: u32) -> u32 {
     let mut free = free;
     for run in runs.iter_mut() {
@@ -114,7 +113,6 @@ pub(crate) fn line_up(runs: &mut [QueuedRun], free: u32) -> u32 {
     free
 }
 
-/// Who takes the lock of the group on the days of each profile.
 fn queue_days(alloc: Global, facts: &Facts, group: u8) -> Result<Vec<QueueDay>, AllocError> {
     let mut days = Vec::new(alloc);
     for due in facts.due() {
@@ -131,7 +129,6 @@ fn queue_days(alloc: Global, facts: &Facts, group: u8) -> Result<Vec<QueueDay>, 
     Ok(days)
 }
 
-/// From when on the lock is free on each day of the calendar.
 fn free_by_day(alloc: Global, days: &[QueueDay], profiles: &[u16]) -> Result<Vec<u32>, AllocError> {
     let mut by_day = Vec::new(alloc);
     let mut free: u32 = 0;
@@ -145,7 +142,6 @@ fn free_by_day(alloc: Global, days: &[QueueDay], profiles: &[u16]) -> Result<Vec
     Ok(by_day)
 }
 
-/// For how long runs that wait for the lock may keep it from the next, each once.
 fn works_of(alloc: Global, tasks: &[Task], group: u8) -> Result<Vec<u32>, AllocError> {
     let mut works: Vec<u32> = Vec::new(alloc);
     for task in tasks {
@@ -158,7 +154,6 @@ fn works_of(alloc: Global, tasks: &[Task], group: u8) -> Result<Vec<u32>, AllocE
 }
 
 impl Queue {
-    /// Who takes the lock of this group, day by day of the calendar.
     pub(crate) fn of(
         alloc: Global,
         facts: &Facts,
@@ -173,12 +168,12 @@ impl Queue {
         })
     }
 
-    /// From when on the lock is free on a day, by its place in the calendar, in minutes of the day.
+    /// From which minute of the day on the lock is free on a day, by the day's place in the
+    /// calendar.
     pub(crate) fn free_on(&self, place: usize) -> u32 {
         self.free.get(place).copied().unwrap_or(0)
     }
 
-    /// The runs on days of a profile.
     pub(crate) fn runs_of(&self, profile: u16) -> &[QueuedRun] {
         match self.days.get(usize::from(profile)) {
             Some(day) => day.runs.as_slice(),

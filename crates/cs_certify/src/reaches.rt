@@ -1,14 +1,13 @@
-//! How long runs may go on that wait for the lock of a group.
 use crate::busy::{BusyTime, busy_times};
 use crate::gains::{Arrivals, MINUTES_OF_DAY, waits_for};
 use crate::numbers::{first_places, minutes_at, number_at, told_apart};
 use cs_profile::{Facts, Task};
 use std::alloc::{AllocError, Global};
 
-/// How many days are looked at for a minute at which a lock is free.
+/// How many days are searched for a minute at which a lock is free.
 const MOST_DAYS: u32 = 4;
 
-/// The end of these days.
+/// The end of these days, in minutes.
 const LATEST: u32 = 5_760;
 
 /// How long a run of a job may go on after it was due.
@@ -21,10 +20,8 @@ pub(crate) struct Longest {
 }
 
 impl Longest {
-    /// No run goes on at all.
     pub(crate) const NONE: Longest = Longest { reach: 0, end: 0 };
 
-    /// The longer of each.
     pub(crate) fn or(self, other: Longest) -> Longest {
         Longest {
             reach: self.reach.max(other.reach),
@@ -33,17 +30,16 @@ impl Longest {
     }
 }
 
-/// Days of one profile at whose start as much is left.
 #[derive(Drop)]
 struct LikeDays {
     profile: u16,
     busy: Vec<BusyTime>,
-    /// Where the lock isn't free any more on such a day, the first minute after it at which it is, counted from the start of
-    /// the day: the latest that the days after may bring.
+    /// If the lock isn't free again on such a day, the first minute after the day at which it is,
+    /// counted from the start of the day: the latest that the next days may bring.
     free_after: u32,
 }
 
-/// The days of each number, whose free minutes after their end aren't known yet.
+/// The days of each number. When the lock is free after them isn't known yet.
 fn like_days(
     alloc: Global,
     facts: &Facts,
@@ -67,7 +63,8 @@ fn like_days(
     Ok(days)
 }
 
-/// The first free minute of days of each kind, by the kind's number; four days where it isn't known.
+/// The first minute of days of each kind at which the lock is free, by the kind's number, or four
+/// days if it isn't known.
 fn first_free_by_kind(
     alloc: Global,
     days: &[LikeDays],
@@ -88,8 +85,8 @@ fn first_free_by_kind(
     Ok(free)
 }
 
-/// The latest first free minute of the days that come next, counted from the start of the day before them, and never more
-/// than four days.
+/// The latest minute at which the lock may first be free on the next day, counted from the start of
+/// this day, but at most four days.
 fn next_free(free: &[u32], next: &[u16]) -> u32 {
     let mut latest = 0;
     for kind in next {
@@ -98,8 +95,8 @@ fn next_free(free: &[u32], next: &[u16]) -> u32 {
     latest.saturating_add(MINUTES_OF_DAY).min(LATEST)
 }
 
-/// The sorts of days that the lock sees, with what the days after them bring: where the lock isn't free on days of a kind, what
-/// is known of the days after them is looked at.
+/// The sorts of days that the lock sees. If the lock isn't free on a day, the days after it decide
+/// when it is.
 fn days_of(
     alloc: Global,
     facts: &Facts,
@@ -128,7 +125,7 @@ fn days_of(
     Ok(days)
 }
 
-/// For how long runs of a job may go on that are due in a busy time.
+/// How long runs of a job that are due in a busy time may go on.
 fn longest_in(busy: &BusyTime, minutes: &[u16], free_after: u32) -> Longest {
     let first = minutes.partition_point(|minute| u32::from(*minute) < busy.from);
     let Some(minute) = minutes.get(first) else {
@@ -149,7 +146,7 @@ fn longest_in(busy: &BusyTime, minutes: &[u16], free_after: u32) -> Longest {
     }
 }
 
-/// The same of each job that is due on such a day and waits for the lock of the group, in all busy times.
+/// Takes in each job that is due on such a day and waits for the lock of the group.
 fn add_day(longest: &mut [Longest], facts: &Facts, group: u8, day: &LikeDays) {
     let Some(due) = facts.due().get(usize::from(day.profile)) else {
         return;
@@ -167,8 +164,8 @@ fn add_day(longest: &mut [Longest], facts: &Facts, group: u8, day: &LikeDays) {
     }
 }
 
-/// For how long runs of each job may go on that wait for the lock of the group, by the job's number, where so much is left when
-/// days of each kind begin. A job that doesn't wait for it has none.
+/// How long runs of each job that waits for the lock of the group may go on, by the job's number.
+/// `carries` is what is left when days of each kind begin. Other jobs have [`Longest::NONE`].
 pub(crate) fn longest_waits(
     alloc: Global,
     facts: &Facts,

@@ -1,4 +1,4 @@
--- Pictures that are put one behind the other.
+-- Pictures that follow one another.
 use Rattle.std.proofs.Common.{◌≡◌, ◌+◌, ◌<◌, ℕ, List, [], ◌∷◌, ◌++◌, Option, get_or, length, map, refl, subst, take, append_assoc, append-nil}
 use Rattle.std.proofs.lemmas.List.{map-append, take_more}
 use Rattle.std.specs.Prelude.{None, Some}
@@ -7,7 +7,7 @@ use Rattle.cs_windows.specs.Windows.{Job}
 use Rattle.cs_chart.specs.Bars.{Days}
 use Rattle.cs_chart.specs.Chart.{IsPictureOf}
 
--- a text in front of a picture
+-- a text before a picture
 pub behind_text : (days : Days) (jobs : List (Option (Job Kind))) (front text : List ℕ) → IsPictureOf days jobs text → IsPictureOf days jobs (front ++ text)
 unfolding IsPictureOf
 behind_text days [] front text p = tt
@@ -15,7 +15,7 @@ behind_text days (None ∷ jobs) front text p = behind_text days jobs front text
 behind_text days (Some job ∷ jobs) front text (bars, colour, before, behind, are, long, parts, rest) =
     (bars, colour, front ++ before, behind, are, long, rw parts (simp append_assoc refl), rest)
 
--- one behind another
+-- two pictures
 pub both : (days : Days) (jobs others : List (Option (Job Kind))) (text more : List ℕ) → IsPictureOf days jobs text → IsPictureOf days others more
     → IsPictureOf days (jobs ++ others) (text ++ more)
 unfolding IsPictureOf
@@ -24,7 +24,7 @@ both days (None ∷ jobs) others text more p q = both days jobs others text more
 both days (Some job ∷ jobs) others text more (bars, colour, before, behind, are, long, parts, rest) q =
     (bars, colour, before, behind ++ more, are, long, rw parts (simp append_assoc refl), both days jobs others behind more rest q)
 
--- a text behind a picture
+-- a text after a picture
 pub before_text : (days : Days) (jobs : List (Option (Job Kind))) (text more : List ℕ) → IsPictureOf days jobs text → IsPictureOf days jobs (text ++ more)
 unfolding IsPictureOf
 before_text days jobs text more p =

@@ -73,7 +73,7 @@ drawn_next bars i d old new minute lt more before h =
     step false true c to h = refl
     step false false c to h = h
 
--- one without minutes covers none
+-- a bar without minutes covers none
 pub none_next : (bars : List Bar) (i : ℕ) (d : Bar) (old : List Bar) (minute : ℕ) → i < length bars
     → (get_or bars i d).to ≤ (get_or bars i d).from
     → (is_covered (take i bars) minute ≡ true → is_covered old minute ≡ true)
@@ -85,7 +85,7 @@ none_next bars i d old minute lt none = drawn_next bars i d old old minute lt (b
     by_test false false is h = h
     by_test false true is h = let w = within (get_or bars i d) minute is in absurd (omega (arith, w.0, w.1, none))
 
--- the same of the bars that are handed on
+-- the same of the bars that are passed on
 pub drawn_of : (held : ℕ → Bool) (bars slice drawn shown : List Bar) (gap width : ℕ) → slice ≡ bars → gap ≡ width → shown ≡ drawn
     → ((minute : ℕ) → is_covered bars minute ≡ held minute) → AreBarsOf (is_covered slice) gap drawn → AreBarsOf held width shown
 drawn_of held bars slice drawn shown gap width e f g is a =

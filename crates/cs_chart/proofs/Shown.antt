@@ -1,4 +1,4 @@
--- The minutes of one day more of a picture.
+-- The minutes of one more day of a picture.
 use Rattle.std.proofs.Common.{ℕ, ◌+◌, ◌-◌, ◌*◌, ◌/◌, ◌%◌, ◌<◌, ◌≤◌, ◌≡◌, Bool, true, false, ◌&&◌, ◌||◌, refl, arith, inl, inr}
 use Rattle.std.specs.Prelude.{nat_le, nat_lt}
 use Rattle.std.proofs.lemmas.Bool.{cases_lt, lt-ltb, le-ltb, le-leb, lt-leb}
@@ -7,7 +7,7 @@ or_none : (b : Bool) → (b || false) ≡ b
 or_none true = refl
 or_none false = refl
 
--- what holds of the minutes of the first days, and of those of the next, holds of one day more
+-- what holds of the minutes of the first days, and of those of the next, holds of one more day
 pub next_day : (f : ℕ → ℕ → Bool) (p minute : ℕ)
     → ((nat_lt minute (1440 * p) && f (minute / 1440) (minute % 1440))
     || ((nat_le (1440 * p) minute && nat_lt minute (1440 * p + 1440)) && f p (minute - 1440 * p)))

@@ -1,4 +1,4 @@
--- What is answered to `chart`.
+-- The answer to `chart`.
 use Rattle.std.specs.Prelude.{◌≡◌, ◌⊎◌, ℕ, List, [], Option, Some, None, Result, Ok}
 use Rattle.clap.specs.Words.{Text}
 use Rattle.cs_args.specs.Asked.{AskedChart}
@@ -19,7 +19,7 @@ use Rattle.cs_files.specs.Response.{Ending}
 use Rattle.cs_files.specs.Trouble.{InWords, Trouble, ends}
 use Rattle.cs_files.specs.declared.asked.Tables.{Tables}
 
--- the longest time and the catch-up hours that were asked
+-- the longest time and the catch-up hours in the words
 abbrev pub terms_of : Question → Terms
 terms_of q = record { max = q.max; from = q.from; to = q.to }
 
@@ -30,24 +30,22 @@ Draws files None tables = Gives (Ok (drawable.Tables tables))
 Draws files (Some path) tables = AndThen (ReadsDeclared files (both_of tables) path)
     (λ plan. Gives (Ok (drawable.Plan plan tables.places)))
 
--- both tables are read first
 abbrev pub FindsDrawable : AskedChart → (List ℕ → Option (List ℕ)) → List ℕ → Failed → Failed
     → Result Drawable Trouble → Type 0
 FindsDrawable a files w =
     AndThen (FindsTables files a.day.table a.day.anacrontab w) (Draws files a.declarations)
 
--- the windows of its jobs
 abbrev pub jobs_of : Question → Drawable → List (Option (Job Kind))
 jobs_of q (drawable.Tables tables) = jobs_of_tables (terms_of q) tables.crontab tables.jobs
 jobs_of q (drawable.Plan plan places) = jobs_of_plan plan
 
--- a picture of those jobs is printed, over so many days from the asked one on
+-- a picture of these jobs is printed, of so many days from the given one on
 abbrev pub IsDrawn : Question → ℕ → Drawable → Ending → Type 0
 IsDrawn q days found ending = (ending.status ≡ 0) × (ending.err ≡ [])
     × IsPictureOf (days_shown q.day days) (jobs_of q found) ending.out
 
--- what is answered to `chart`: the first fault of DATE, MAX, the hours and the files ends the call, and
--- no file is read before its own turn, or before the words ask a question
+-- The first fault of DATE, MAX and the hours ends the call before a file is read; then the files
+-- are read in turn.
 abbrev pub AnswersChart : AskedChart → (List ℕ → Option (List ℕ)) → List ℕ → Failed → Failed → Ending
     → Type 0
 AnswersChart a files w before after ending =

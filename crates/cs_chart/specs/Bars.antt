@@ -1,4 +1,4 @@
--- The bars of a job, and the minutes that its windows hold.
+-- The bars of a job, and the minutes in its windows.
 use Rattle.std.specs.Prelude.{◌≡◌, ℕ, ◌+◌, ◌-◌, ◌*◌, ◌/◌, ◌%◌, ◌<◌, ◌≤◌, ◌⊎◌, min, max, Bool, true, ◌&&◌, List, [], ◌∷◌, All, nat_le, nat_lt}
 use Rattle.std.specs.List.{list_any}
 use Rattle.cs_civil.specs.Calendar.{Kind, four_days, last_day}
@@ -19,45 +19,43 @@ pub record AreShown (s : Days) : Type 0 where
   pub few : s.days ≤ 7
   pub late : s.first + s.days ≤ last_day + 1
 
--- so many days from one on, one to seven, from 1970-01-04 to 9999-12-31
+-- so many days, one to seven, from 1970-01-04 to 9999-12-31
 abbrev pub days_shown : ℕ → ℕ → Days
 days_shown from count = record {
   first = max from 3;
   days = min (max 1 (min count 7)) (last_day - max from 3 + 1);
 }
 
--- whether the bar covers a minute of the picture
 abbrev pub covers : Bar → ℕ → Bool
 covers bar minute = nat_le bar.from minute && nat_lt minute bar.to
 
--- whether one of the bars does
 abbrev pub is_covered : List Bar → ℕ → Bool
 is_covered bars minute = list_any (λ bar. covers bar minute) bars
 
--- whether the window holds this minute of the day looked at
+-- the window holds this minute of the day
 abbrev pub holds : ℕ → Window → Bool
 holds minute w = nat_le w.from (minute + MINUTES_OF_DAY * w.day_back)
     && nat_lt (minute + MINUTES_OF_DAY * w.day_back) (w.from + w.reach)
 
--- whether the minute is one of the day that begins at `start`, and one of the day's windows holds it
+-- the minute is in the day that begins at `start`, and one of that day's windows holds it
 abbrev pub is_held_on : ℕ → List Window → ℕ → Bool
 is_held_on start windows minute =
     (nat_le start minute && nat_lt minute (start + MINUTES_OF_DAY))
     && list_any (holds (minute - start)) windows
 
--- whether a window of the job holds this minute, counted from the start of a day: a window of the
--- minute's own day or one that began up to three days before
+-- A window of the job holds this minute, counted from the start of a day. The window is of the
+-- minute's own day, or began up to three days before.
 abbrev pub is_occupied : Job Kind → ℕ → ℕ → Bool
 is_occupied job first minute =
     list_any (holds (minute % MINUTES_OF_DAY))
     (windows_on (job ∷ []) (four_days (first + minute / MINUTES_OF_DAY)))
 
--- whether the minute is one of the days, and a window of the job holds it
+-- a window of the job holds this minute of the picture
 unfoldable pub is_held : Days → Job Kind → ℕ → Bool
 is_held days job minute =
     nat_lt minute (MINUTES_OF_DAY * days.days) && is_occupied job days.first minute
 
--- the minute is between two that are held, and fewer than `gap` are between these
+-- the minute is between two that are held, with fewer than `gap` minutes between these
 pub record IsInGap (held : ℕ → Bool) (gap minute : ℕ) : Type 0 where
   pub before : ℕ
   pub behind : ℕ
@@ -67,7 +65,7 @@ pub record IsInGap (held : ℕ → Bool) (gap minute : ℕ) : Type 0 where
   pub below : minute < behind
   pub near : behind ≤ before + gap
 
--- the bar begins and ends with a minute that is held, and goes over such gaps alone
+-- the bar begins and ends with a minute that is held, and passes only over such gaps
 pub record IsBarOf (held : ℕ → Bool) (gap : ℕ) (bar : Bar) : Type 0 where
   pub some : bar.from < bar.to
   pub first : held bar.from ≡ true

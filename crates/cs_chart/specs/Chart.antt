@@ -20,21 +20,21 @@ abbrev pub windows_of : When → ℕ → Option (Job Kind)
 windows_of (At times) max = Some (record { begins = is_due times; lasts = max })
 windows_of Reboot max = None
 
--- how long a window lasts from the first catch-up minute on: to the last one, and a run
+-- from the first catch-up minute to the end of a run that starts in the last one
 abbrev pub catch_up : Terms → ℕ
 catch_up terms = min (terms.to - 1 - terms.from + terms.max) (2 ^ 16 - 1)
 
--- an anacron job: a window begins at the first catch-up minute of each day (anacron(8))
+-- each day a window begins at the first catch-up minute (anacron(8))
 abbrev pub windows_of_anacron : Terms → Option (Job Kind)
 windows_of_anacron terms =
     Some (record { begins = λ day minute. minute == terms.from; lasts = catch_up terms })
 
--- the windows of the jobs of two tables, in order of line; none of one that is started at reboot
+-- the windows of the jobs of two tables, in order of line; none for `@reboot`
 abbrev pub jobs_of_tables : Terms → Table → JobTable → List (Option (Job Kind))
 jobs_of_tables terms table jobs = map (λ line. windows_of line.when terms.max) table.lines
     ++ map (λ job. windows_of_anacron terms) jobs.lines
 
--- the job of a plan with this number: its longest time, and the catch-up hours
+-- the longest time of this job, and the catch-up hours
 abbrev pub terms_at : Declared → ℕ → Terms
 terms_at d j = record { max = (job_at d j).max; from = d.hours.from; to = d.hours.to }
 
@@ -45,25 +45,23 @@ jobs_of_plan d =
     ++ map (λ j. windows_of_anacron (terms_at d (crons d + j)))
     (below (length d.anacrontab.lines))
 
--- the windows of the job of a row
 abbrev pub shown_of : Row → Option (Job Kind)
 shown_of row = option_map job_of row.occupied
 
--- `M60 9h30`, a line along the middle of a row: from minute 60 on, over 30 minutes
+-- `M60 9h30`, a line along the middle of a row, from minute 60 on and 30 minutes long
 abbrev pub bar_text : Bar → List ℕ
 bar_text bar =
     if nat_lt bar.from bar.to
     then 77 ∷ (decimal bar.from ++ (codes " 9h" ++ decimal (bar.to - bar.from)))
     else []
 
--- bars in a colour
 abbrev pub bars_text : List ℕ → List Bar → List ℕ
 bars_text colour bars = codes "<path class=\"bars\" stroke=\"" ++ (colour
     ++ (codes "\" stroke-width=\"10\" d=\"" ++ (flat_map bar_text bars ++ codes "\"/>")))
 
--- The bars of the jobs stand in the text, in this order, each in a colour as `#E69F00`: they are
--- those of the job's windows, and gaps of fewer minutes than two for each day may be closed. A job
--- that is started at reboot has none.
+-- The bars of each job are in the text, in this order, each in a colour such as `#E69F00`. They are
+-- those of the job's windows; gaps of fewer minutes than two for each day may be closed. A job at
+-- `@reboot` has none.
 unfoldable pub IsPictureOf : Days → List (Option (Job Kind)) → List ℕ → Type 0
 IsPictureOf days [] text = Unit {0}
 IsPictureOf days (None ∷ jobs) text = IsPictureOf days jobs text

@@ -31,8 +31,8 @@ pub enum Drawable {
     Plan(Plan, Sequence<Place>),
 }
 
-/// Reads both tables and then the declarations, if there are any, and writes to standard error what is
-/// to be warned of the tables.
+/// Reads both tables and then the declarations, if there are any, and writes warnings about the
+/// tables to standard error.
 pub fn find_drawable<'a, I: Inputs, E: Output>(
     alloc: Global,
     inputs: &mut I,
@@ -65,7 +65,6 @@ pub fn find_drawable<'a, I: Inputs, E: Output>(
     Ok(Drawable::Plan(plan, places))
 }
 
-/// The rows of the jobs.
 fn rows_of<'a>(
     alloc: Global,
     question: Question,
@@ -89,9 +88,8 @@ fn rows_of<'a>(
 }
 
 /// Answers `chart TABLE DATE [MAX] [--anacrontab FILE] [--from M] [--to M] [--days N]
-/// [--declarations FILE]`: the picture of both tables, with one longest time for all jobs, or of the plan
-/// that declarations make of them. Days before 1970-01-04 and past 9999-12-31 are not drawn. The only
-/// error is out of memory.
+/// [--declarations FILE]`. Days before 1970-01-04 and past 9999-12-31 are not drawn. The only error
+/// is out of memory.
 pub fn answer_chart(
     alloc: Global,
     request: &ChartWords<'_>,

@@ -1,4 +1,4 @@
-//! The dates and hours along a picture, and the lines below them.
+//! The dates and hours along a picture, and their lines.
 ghost use Rattle.std.specs.Prelude.{◌≤◌};
 
 use crate::sheet::{HOURS, PLOT_LEFT, PLOT_WIDTH, ROWS_OF_HOURS, Sheet, begin_plot, place_of};
@@ -10,7 +10,7 @@ use std::fmt::Write;
 
 const MINUTES_OF_HOUR: u32 = 60;
 
-/// From how many hours to how many others an hour is named and has its line.
+/// The step between hours with a number and a line.
 fn hours_apart(days: u8) -> u32
     ensures { (1 ≤ result) × (result ≤ 6) }
 {
@@ -22,7 +22,6 @@ fn hours_apart(days: u8) -> u32
     }
 }
 
-/// Adds the numbers of the hours, each at the beginning of its hour.
 fn push_numbers(text: &mut String, span: DaySpan, y: u32) -> Result<(), AllocError> {
     let apart = hours_apart(span.days());
     let hours = 24 * u32::from(span.days());
@@ -35,7 +34,7 @@ fn push_numbers(text: &mut String, span: DaySpan, y: u32) -> Result<(), AllocErr
     Ok(())
 }
 
-/// Adds the dates, each in the middle of its day, and the hours, and goes below them.
+/// Adds the dates and hours, and moves below them.
 pub(crate) fn push_axis(sheet: &mut Sheet, span: DaySpan) -> Result<(), AllocError> {
     let (upper, lower) = (sheet.below(12), sheet.below(26));
     sheet.text.push_str("<g text-anchor=\"middle\">\n")?;
@@ -52,15 +51,15 @@ pub(crate) fn push_axis(sheet: &mut Sheet, span: DaySpan) -> Result<(), AllocErr
     Ok(())
 }
 
-/// Adds the hours once more, below what they belong to.
+/// Adds the hours once more, below the rows or the load.
 pub(crate) fn push_hours(text: &mut String, span: DaySpan, top: u32) -> Result<(), AllocError> {
     text.push_str("<g text-anchor=\"middle\">")?;
     push_numbers(text, span, top.saturating_add(12))?;
     text.push_str("\n</g>\n")
 }
 
-/// What stands above a row, by its number from 0: the hours, if 40 rows stand above it or twice as many
-/// and so on. The lines of the hours don't go through their numbers.
+/// The hours above a row, after every 40 rows. A white background keeps the lines of the hours out
+/// of the numbers.
 pub(crate) fn hours_above(
     alloc: Global,
     span: DaySpan,
@@ -98,7 +97,7 @@ fn push_lines(text: &mut String, span: DaySpan, apart: u32, colour: &str) -> Res
     text.push_str("\"/>")
 }
 
-/// Adds the lines of the hours and of the days over what is drawn next, so high.
+/// Adds the lines of the hours and days behind what is drawn next, so high.
 pub(crate) fn push_grid(sheet: &mut Sheet, span: DaySpan, height: u32) -> Result<(), AllocError> {
     let apart = hours_apart(span.days());
     begin_plot(&mut sheet.text, span, sheet.y, height, 1)?;

@@ -11,14 +11,15 @@ use cs_windows::{Occupied, Window, windows_on};
 use std::alloc::{AllocError, Global};
 use std::fmt::Write;
 
-/// Minutes of the picture, from one on and below another, counted from the start of its first day.
+/// A range of minutes, counted from the start of the picture's first day; `to` is the first after
+/// it.
 #[derive(Clone, Copy)]
 pub(crate) struct Bar {
     pub(crate) from: u32,
     pub(crate) to: u32,
 }
 
-/// Adds the minutes of a bar; to the last bar, where both touch.
+/// Adds the minutes of a bar; to the last bar, if the two touch.
 pub(crate) fn add_bar(bars: &mut Vec<Bar>, bar: Bar) -> Result<(), AllocError>
     ensures { OnOk result ((minute : ℕ) → is_covered bars.new.items minute
         ≡ (is_covered bars.old.items minute || covers bar minute)) }
@@ -39,7 +40,7 @@ pub(crate) fn add_bar(bars: &mut Vec<Bar>, bar: Bar) -> Result<(), AllocError>
     Ok(())
 }
 
-/// The minutes that a window holds of its day, whose first is this minute of the picture.
+/// The minutes of the day beginning at `start` that a window holds.
 fn bar_on(window: &Window, start: u32) -> Bar
     requires { start ≤ 100_000 }
     ensures { (minute : ℕ) → covers result minute ≡ is_held_on start (window.now ∷ []) minute }
@@ -53,7 +54,7 @@ fn bar_on(window: &Window, start: u32) -> Bar
     }
 }
 
-/// Adds the minutes that windows hold of their day, whose first is this minute of the picture.
+/// Adds the minutes of the day beginning at `start` that windows hold.
 fn add_windows(bars: &mut Vec<Bar>, windows: &[Window], start: u32) -> Result<(), AllocError>
     requires { start ≤ 100_000 }
     ensures { OnOk result ((minute : ℕ) → is_covered bars.new.items minute
@@ -65,9 +66,8 @@ fn add_windows(bars: &mut Vec<Bar>, windows: &[Window], start: u32) -> Result<()
     Ok(())
 }
 
-/// The bars of a job over the days of the picture: they cover the very minutes that its windows
-/// hold, those that began up to three days before among them. Windows that touch make one bar. The
-/// only error is out of memory.
+/// The bars of a job on the days of the picture: the minutes that its windows hold, also those that
+/// began up to three days before. Windows that touch make one bar.
 #[tactic(auto, using(crate::proofs::Shown::next_day), unfolding(crate::specs::Bars::is_held))]
 pub(crate) fn bars_of(
     alloc: Global,
@@ -87,7 +87,7 @@ pub(crate) fn bars_of(
     Ok(bars)
 }
 
-/// Adds lines along a row, from the beginning of each bar to its end, after how their element begins.
+/// Adds a line along a row for each bar; `start` begins the element.
 pub(crate) fn push_stretches(text: &mut String, start: &str, bars: &[Bar]) -> Result<(), AllocError>
     ensures { OnOk result (string_bytes text.new ≡ string_bytes text.old
         ++ (start.now ++ (flat_map bar_text bars.now ++ codes "\"/>"))) }

@@ -1,15 +1,16 @@
-//! What a row's command is named after, past a guard such as `test -x /usr/bin/backup ||`.
+//! The command after which a row is named, without a guard such as `test -x /usr/bin/backup ||`.
 use bstr::ByteSlice;
 use cs_command::program_text;
 
-/// Whether it is `test WORDS` or `[ WORDS ]`, and a shell takes all words as they stand.
+/// Whether the text is `test WORDS` or `[ WORDS ]`, and a shell takes all words literally.
 fn is_test(text: &[u8]) -> bool {
     let begins = text.starts_with_str(b"test ".as_slice());
     let is_test = begins || text.starts_with_str(b"[ ") && text.ends_with_str(b" ]");
     is_test && text.find_byteset(b"\"'\\`;&|()<>#%".as_slice()).is_none()
 }
 
-/// What stands after a test between these words, if they are the whole command and it has no such sign.
+/// What follows a test between these words, if they are the whole command and it has none of the
+/// signs.
 fn between<'c>(command: &'c [u8], words: [&str; 3], signs: &[u8]) -> Option<&'c [u8]> {
     let [start, middle, end] = words;
     let (front, rest) = command.split_once_str(start.as_bytes())?;
@@ -23,7 +24,7 @@ fn between<'c>(command: &'c [u8], words: [&str; 3], signs: &[u8]) -> Option<&'c 
     }
 }
 
-/// What runs after a guard, if the text is for certain one and a program or a group that it guards.
+/// What runs after a guard, if the text is certainly a guard and a program or a group.
 fn after_guard(command: &[u8]) -> Option<&[u8]> {
     let command = command.trim();
     for (words, signs) in [
@@ -40,7 +41,7 @@ fn after_guard(command: &[u8]) -> Option<&[u8]> {
     None
 }
 
-/// The program that does a command's work, and its words; or more, where what is in front isn't read.
+/// The program that does a command's work, with its words; more, if what precedes it isn't read.
 pub(crate) fn work_of(command: &[u8]) -> &[u8] {
     let mut rest = program_text(command);
     for _ in 0..command.len() {

@@ -9,18 +9,17 @@ use cs_plan::Group;
 use std::alloc::{AllocError, Global};
 use std::fmt::Write;
 
-/// How many cells of the table's name have room in the title.
+/// How many cells of the table's name fit the title.
 const SUBJECT_CELLS: usize = 72;
 
-/// How many groups are named in one line, and how far apart they are.
+/// How many groups are named in a line, and how far apart, in pixels.
 const GROUPS_OF_LINE: usize = 8;
 
 const GROUP_WIDTH: u32 = 148;
 
-/// How high a line of the key is.
+/// The height of a line of the key.
 const KEY_LINE: u32 = 18;
 
-/// The title: the table, and the days.
 pub(crate) fn title(alloc: Global, table: &str, span: DaySpan) -> Result<String, AllocError> {
     let mut title = String::new(alloc);
     let name = if table == "-" {
@@ -38,7 +37,7 @@ pub(crate) fn title(alloc: Global, table: &str, span: DaySpan) -> Result<String,
     Ok(title)
 }
 
-/// What holds of all jobs together: `each run takes at most 60 min, catch-up from 05:00 to 24:00`.
+/// The terms of all jobs: `each run takes at most 60 min, catch-up from 05:00 to 24:00`.
 pub(crate) fn terms_text(
     alloc: Global,
     question: Question,
@@ -64,7 +63,7 @@ pub(crate) fn terms_text(
     Ok(text)
 }
 
-/// Adds what bars and marks mean, and goes below that.
+/// Adds the meaning of bars and marks, and moves below it.
 pub(crate) fn push_key(sheet: &mut Sheet) -> Result<(), AllocError> {
     let middle = sheet.below(8);
     let top = sheet.y;
@@ -83,7 +82,7 @@ pub(crate) fn push_key(sheet: &mut Sheet) -> Result<(), AllocError> {
     Ok(())
 }
 
-/// Adds the colours and names of the groups, if there are any, and goes below them.
+/// Adds the colours and names of the groups, and moves below them.
 pub(crate) fn push_groups(sheet: &mut Sheet, groups: &[Group]) -> Result<(), AllocError> {
     if groups.is_empty() {
         return Ok(());

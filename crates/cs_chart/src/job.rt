@@ -17,11 +17,11 @@ use cs_windows::Occupied;
 use std::alloc::{AllocError, Global};
 use std::fmt::Write;
 
-/// Where a row stands, and what it shows beside its job.
+/// The place of a row, and what it shows besides its job.
 #[derive(Clone, Copy)]
 pub(crate) struct Beside<'a> {
     pub(crate) span: DaySpan,
-    /// How far down the row begins.
+    /// The top of the row.
     pub(crate) top: u32,
     /// What the windows of the job meet.
     pub(crate) meeting: Option<&'a Meeting<'a>>,
@@ -30,13 +30,13 @@ pub(crate) struct Beside<'a> {
 /// How many cells of a name are shown where the pointer rests on its row.
 const TITLE_CELLS: usize = 120;
 
-/// How many cells of a line's place have room in front of its program.
+/// How many cells of a line's place fit before its program.
 pub(crate) const PLACE_CELLS: usize = 18;
 
 // ---- names
 
-/// Adds `line 5`, the place that the line of a gathered table comes from, or `job cron.weekly`; the end
-/// of a place and the beginning of an identifier, so many cells of them at most.
+/// Adds `line 5`, the place of the line in a gathered table, or `job cron.weekly`. Of a place at
+/// most so many cells are shown, from its end; of an identifier from its beginning.
 pub(crate) fn push_name(text: &mut String, row: &Row<'_>, cells: usize) -> Result<(), AllocError> {
     match (row.name, row.origin) {
         (Name::Job(identifier), _) => {
@@ -48,9 +48,8 @@ pub(crate) fn push_name(text: &mut String, row: &Row<'_>, cells: usize) -> Resul
     }
 }
 
-/// Adds the name and, after that of a line, what it runs, as far as there is room for them in front of
-/// the bars: `line 5 /usr/bin/backup` or `job cron.weekly`. Of `run-parts` that is the end, since its
-/// folder stands there.
+/// Adds the name, and for a line what it runs, as far as they fit: `line 5 /usr/bin/backup` or `job
+/// cron.weekly`. Of `run-parts` the end is shown, which has the folder.
 fn push_row_name(text: &mut String, row: &Row<'_>) -> Result<(), AllocError> {
     let start = text.len();
     let Name::Line(_, command) = row.name else {
@@ -66,7 +65,7 @@ fn push_row_name(text: &mut String, row: &Row<'_>) -> Result<(), AllocError> {
     push_cut(text, work, left)
 }
 
-/// Adds which jobs it meets, and when: `, meets line 5 first on 2024-09-13 Fri 01:30, job ..`.
+/// Adds the jobs that it meets, and when: `, meets line 5 first on 2024-09-13 Fri 01:30, job ..`.
 fn push_met(text: &mut String, meeting: &Meeting<'_>, span: DaySpan) -> Result<(), AllocError> {
     let mut start = ", meets ";
     for (row, first) in meeting.others.as_slice() {
@@ -79,9 +78,8 @@ fn push_met(text: &mut String, meeting: &Meeting<'_>, span: DaySpan) -> Result<(
     Ok(())
 }
 
-/// Adds what shows where the pointer rests on the row: the name of the job, and where its line comes from,
-/// if it is one of a gathered table, as `line 5 /usr/bin/backup from /etc/cron.d/munin:12 (munin)`, and
-/// what is declared of it.
+/// Adds the text for a pointer that rests on the row: the job, where its line comes from, as `line
+/// 5 /usr/bin/backup from /etc/cron.d/munin:12 (munin)`, and what is declared of it.
 fn push_title(text: &mut String, row: &Row<'_>, beside: &Beside<'_>) -> Result<(), AllocError> {
     let words = match row.name {
         Name::Line(number, command) => {
@@ -143,7 +141,6 @@ fn push_ends(text: &mut String, span: DaySpan, bars: &[Bar]) -> Result<(), Alloc
     text.push_str("\"/>")
 }
 
-/// Adds a triangle above the beginning of each bar.
 fn push_triangles(text: &mut String, span: DaySpan, bars: &[Bar]) -> Result<(), AllocError> {
     let half = 9 * u32::from(span.days());
     text.push_str("<path class=\"mark\" d=\"")?;
@@ -154,8 +151,8 @@ fn push_triangles(text: &mut String, span: DaySpan, bars: &[Bar]) -> Result<(), 
     text.push_str("\"/>")
 }
 
-/// Adds over the bars of a job the lines of its group, where windows meet others, and the due
-/// minutes of a cron job: a mark for each, or a band from the first to the last of many.
+/// Adds over the bars the lines of the group, where windows meet others, and the due minutes of a
+/// cron job: a mark for each, or a band from the first to the last of many.
 fn push_over(
     alloc: Global,
     text: &mut String,
@@ -191,7 +188,7 @@ fn push_over(
 
 // ---- the row
 
-/// Adds the bars and marks of a job, and its weight to the load; or that it is started at reboot.
+/// Adds the bars and marks of a job, and its weight to the load; or `at reboot`.
 fn push_plot(
     alloc: Global,
     text: &mut String,
@@ -231,7 +228,7 @@ fn push_plot(
     Ok(())
 }
 
-/// The row of a job. What is found as it is drawn is added to what was.
+/// The row of a job. Updates `found`.
 pub(crate) fn row_text(
     alloc: Global,
     row: &Row<'_>,

@@ -1,5 +1,4 @@
-//! The picture of two tables over some days, in SVG: a row for each job, its windows as bars and its
-//! due minutes as marks.
+//! Draws the jobs of two tables over some days, in SVG: their windows as bars, with due minutes.
 #![tactic(auto)]
 
 mod answer;

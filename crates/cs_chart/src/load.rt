@@ -1,4 +1,4 @@
-//! The load: what the jobs that may run weigh together, minute by minute.
+//! The load: the weight of all jobs that may run, minute by minute.
 use crate::axis::push_grid;
 use crate::bar::{Bar, bars_of};
 use crate::job::{PLACE_CELLS, push_name};
@@ -9,10 +9,9 @@ use crate::text::push_minute;
 use std::alloc::{AllocError, Global};
 use std::fmt::Write;
 
-/// How high the part of the load is.
 const HEIGHT: u32 = 100;
 
-/// How many jobs are named that make the highest load.
+/// How many of the jobs that make the highest load are named.
 const MOST_JOBS: usize = 6;
 
 /// What is found while rows are drawn.
@@ -22,13 +21,11 @@ pub(crate) struct Found {
     pub(crate) loads: Vec<u32>,
     /// Whether something is drawn coarser than it is.
     pub(crate) is_coarse: bool,
-    /// Whether windows of some rows meet.
     pub(crate) meets: bool,
     /// Whether some job may have to wait for its lock.
     pub(crate) waits: bool,
 }
 
-/// Adds a job of this weight over the minutes of a bar.
 fn add_bar(loads: &mut [u32], bar: Bar, weight: u8) {
     for minute in bar.from..bar.to {
         if let Some(load) = loads.get_mut(minute as usize) {
@@ -44,7 +41,7 @@ pub(crate) fn add_weight(loads: &mut [u32], bars: &[Bar], weight: u8) {
     }
 }
 
-/// Adds the area under the load, or of what is above a floor, after how its element begins.
+/// Adds the area under the load, or of the load above a floor; `start` begins the element.
 fn push_area(
     text: &mut String,
     loads: &[u32],
@@ -87,7 +84,7 @@ fn is_over(alloc: Global, span: DaySpan, row: &Row<'_>, minute: u32) -> Result<b
     Ok(bars.iter().any(|bar| bar.from <= minute && minute < bar.to))
 }
 
-/// Adds the highest load, if there is any: when it is first, and which jobs make it.
+/// Adds the highest load, its first minute, and the jobs that make it.
 pub(crate) fn push_peak(
     alloc: Global,
     sheet: &mut Sheet,
@@ -120,7 +117,7 @@ pub(crate) fn push_peak(
     Ok(())
 }
 
-/// Adds the load with the line of the capacity, what is above it in another colour, and goes below.
+/// Adds the load with the line of the capacity, in another colour above it, and moves below.
 pub(crate) fn push_load(
     sheet: &mut Sheet,
     span: DaySpan,

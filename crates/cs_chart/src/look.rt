@@ -1,16 +1,15 @@
-//! What bars look like.
+//! The look of bars.
 ghost use Rattle.std.specs.Prelude.{◌≡◌, length};
 
 use std::alloc::AllocError;
 use std::fmt::Write;
 
-/// How many colours groups have before they come again with white lines.
+/// How many colours groups have; further groups repeat them with white lines.
 const COLOURS: u8 = 6;
 
-/// The colour of a group by its place, counted from 0, or of jobs that are in none: those of Okabe and
-/// Ito, which also people who see few colours can distinguish ("Color Universal Design", 2008), without their
-/// black, in which due minutes are drawn, and their vermilion, in which the load is drawn that is above
-/// the capacity.
+/// The colour of a group by its index, or of jobs without a group: those of Okabe and Ito for all
+/// kinds of colour vision ("Color Universal Design", 2008), except black, the colour of due
+/// minutes, and vermilion, that of load above the capacity.
 pub(crate) fn colour_of(group: Option<u8>) -> &'static str
     ensures { length result.now ≡ 7 }
 {
@@ -27,8 +26,8 @@ pub(crate) fn colour_of(group: Option<u8>) -> &'static str
     }
 }
 
-/// Adds the white lines through what was drawn of a group's bar, along this way at this height, so that
-/// more groups than colours look different. From the nineteenth group on looks come again.
+/// Adds white lines through the bars of a group, of this length from this place on, so that more
+/// groups than colours look different. The nineteenth group looks like the first.
 pub(crate) fn push_lines(
     text: &mut String,
     group: Option<u8>,
@@ -47,7 +46,6 @@ pub(crate) fn push_lines(
     )
 }
 
-/// Adds a bar for a key.
 pub(crate) fn push_swatch(
     text: &mut String,
     group: Option<u8>,

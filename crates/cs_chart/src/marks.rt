@@ -1,4 +1,4 @@
-//! What a picture can show of bars and of due minutes.
+//! Bars and due minutes as a picture can show them.
 ghost use Rattle.std.specs.Prelude.{◌≡◌, ◌||◌, ℕ, Bool, true, All, IfOk, OnOk};
 ghost use Rattle.cs_chart.specs.Bars.{AreBarsOf, IsBarOf, covers, is_covered};
 
@@ -12,13 +12,13 @@ use std::alloc::{AllocError, Global};
 #[derive(Drop)]
 pub(crate) struct Drawn {
     pub(crate) bars: Vec<Bar>,
-    /// Whether some of them were nearer than the picture can show, and are drawn as one.
+    /// Whether some were nearer than the picture can show, and are drawn as one.
     pub(crate) is_coarse: bool,
 }
 
 impl Drawn {
-    /// Adds a bar after the others; to the last, where it begins no sooner than that and there are less
-    /// than `gap` minutes between both.
+    /// Adds a bar; to the last one, if it begins no sooner and fewer than `gap` minutes are between
+    /// both.
     fn push(&mut self, bar: Bar, gap: u32) -> Result<(), AllocError>
         ensures whole { OnOk result ((minute : ℕ)
             → (is_covered self.old.bars.items minute || covers bar minute) ≡ true
@@ -43,7 +43,7 @@ impl Drawn {
         Ok(())
     }
 
-    /// Adds the due minutes of a day, whose first is this minute of the picture.
+    /// Adds the due minutes of the day that begins at this minute of the picture.
     fn push_day(&mut self, due: &MinuteSet, start: u32, gap: u32) -> Result<(), AllocError> {
         for minute in due.iter() {
             let at = start.saturating_add(u32::from(minute));
@@ -53,7 +53,7 @@ impl Drawn {
     }
 }
 
-/// The bars, with no gap of less than so many minutes.
+/// The bars, joined over gaps of fewer than so many minutes.
 pub(crate) fn without_gaps(alloc: Global, bars: &[Bar], gap: u32) -> Result<Drawn, AllocError>
     ensures { IfOk result (λ drawn. AreBarsOf (is_covered bars.now) gap drawn.bars.items) }
 {
@@ -69,8 +69,8 @@ pub(crate) fn without_gaps(alloc: Global, bars: &[Bar], gap: u32) -> Result<Draw
     Ok(drawn)
 }
 
-/// The due minutes of a schedule over the days of the picture: a bar from a minute to itself, or to the
-/// last of several of which each is less than `gap` minutes after the one before.
+/// The due minutes of a schedule on the days of the picture: a bar from a minute to itself, or to
+/// the last of several, if each is less than `gap` minutes after the one before.
 pub(crate) fn marks_of(
     alloc: Global,
     schedule: &Schedule,

@@ -9,9 +9,9 @@ use std::alloc::{AllocError, Global};
 /// What the windows of a job meet.
 #[derive(Drop)]
 pub(crate) struct Meeting<'a> {
-    /// The minutes that windows of others hold with its own.
+    /// The minutes that its own windows and others hold.
     pub(crate) bars: Vec<Bar>,
-    /// The others, each with the first minute of the picture that windows of both hold.
+    /// The others, each with the first minute of the picture that both hold.
     pub(crate) others: Vec<(Row<'a>, u32)>,
 }
 
@@ -22,8 +22,8 @@ struct Holder<'a> {
     held: Vec<u64>,
 }
 
-/// Whether windows of both may not meet: these are of one exclusive group, one of them is of the crontab,
-/// and not both take the group's lock.
+/// Whether windows of both may not meet: both are in one exclusive group, one of them is of the
+/// crontab, and not both take the group's lock.
 fn clash(row: &Row<'_>, other: &Row<'_>) -> bool {
     let (Some(own), Some(others)) = (row.declared, other.declared) else {
         return false;
@@ -36,7 +36,6 @@ fn clash(row: &Row<'_>, other: &Row<'_>) -> bool {
     own.is_exclusive && own.place == others.place && is_cron && !take_lock
 }
 
-/// Marks the minutes of a bar.
 fn mark(marks: &mut [u64], bar: Bar) {
     for minute in bar.from..bar.to {
         let minute = minute as usize;
@@ -46,7 +45,7 @@ fn mark(marks: &mut [u64], bar: Bar) {
     }
 }
 
-/// The minutes of the picture that the windows of a row hold; none where its group isn't exclusive.
+/// The minutes of the picture that the windows of a row hold; none if its group isn't exclusive.
 fn held_minutes(alloc: Global, row: &Row<'_>, span: DaySpan) -> Result<Vec<u64>, AllocError> {
     let occupied = match (row.declared, row.occupied) {
         (Some(declared), Some(occupied)) if declared.is_exclusive => occupied,
@@ -76,7 +75,6 @@ fn mark_common(marks: &mut [u64], one: &[u64], other: &[u64]) -> Option<u32> {
     first
 }
 
-/// The bars of the marked minutes.
 fn bars_of_marks(alloc: Global, marks: &[u64]) -> Result<Vec<Bar>, AllocError> {
     let mut bars = Vec::new(alloc);
     let words = u32::try_from(marks.len()).unwrap_or(u32::MAX);
@@ -93,7 +91,6 @@ fn bars_of_marks(alloc: Global, marks: &[u64]) -> Result<Vec<Bar>, AllocError> {
     Ok(bars)
 }
 
-/// What the windows of the row at this place meet of those of the others.
 fn meeting_of<'a>(
     alloc: Global,
     holders: &[Holder<'a>],
@@ -117,7 +114,7 @@ fn meeting_of<'a>(
     Ok(Meeting { bars, others })
 }
 
-/// What the windows of each row meet, in the order of rows. The only error is out of memory.
+/// What the windows of each row meet, in the order of rows.
 pub(crate) fn meetings_of<'a>(
     alloc: Global,
     rows: &[Row<'a>],

@@ -14,7 +14,7 @@ use cs_plan::Plan;
 use std::alloc::{AllocError, Global};
 use std::fmt::Write;
 
-/// From how many rows on the hours come once more below them.
+/// With so many rows or more, the hours are repeated below them.
 const MANY_ROWS: usize = 25;
 
 /// What is drawn.
@@ -25,14 +25,14 @@ pub(crate) struct Scene<'a> {
     pub(crate) rows: &'a [Row<'a>],
     /// What the windows of each row meet.
     pub(crate) meetings: &'a [Meeting<'a>],
-    /// The plan that declarations make, if there are any.
+    /// None without declarations.
     pub(crate) plan: Option<&'a Plan>,
     pub(crate) span: DaySpan,
-    /// How many days were asked for.
+    /// How many days the words ask for.
     pub(crate) days: u8,
 }
 
-/// How high so many rows are, with the hours between them.
+/// The height of so many rows, with the hours between them.
 fn rows_height(rows: usize) -> u32 {
     let rows = u32::try_from(rows).unwrap_or(u32::MAX);
     let hours = rows.saturating_sub(1) / ROWS_OF_HOURS;
@@ -40,7 +40,7 @@ fn rows_height(rows: usize) -> u32 {
         .saturating_add(HOURS.saturating_mul(hours))
 }
 
-/// The rows, of which the first has this top. What is found as they are drawn is added to what was.
+/// The rows from this top on. Updates `found`.
 fn rows_drawn(
     alloc: Global,
     scene: &Scene<'_>,
@@ -68,7 +68,7 @@ fn rows_drawn(
     Ok(text)
 }
 
-/// Adds notes at the foot, such as on what the picture doesn't show.
+/// Adds notes at the foot, such as what the picture doesn't show.
 fn push_notes(
     alloc: Global,
     sheet: &mut Sheet,
@@ -99,7 +99,6 @@ fn push_notes(
     Ok(())
 }
 
-/// Adds everything above the rows.
 fn push_head(sheet: &mut Sheet, scene: &Scene<'_>) -> Result<(), AllocError> {
     let (y, title) = (sheet.below(26), scene.title);
     write!(
@@ -118,8 +117,8 @@ fn push_head(sheet: &mut Sheet, scene: &Scene<'_>) -> Result<(), AllocError> {
     sheet.text.push_str("<g font-family=\"monospace\">\n")
 }
 
-/// Adds everything below the rows: the hours again where there are many, the load beside the capacity, if
-/// that is declared, and notes.
+/// Adds everything below the rows: the hours again below many, the load and the capacity, if
+/// declared, and notes.
 fn push_foot(
     alloc: Global,
     sheet: &mut Sheet,
@@ -143,16 +142,12 @@ fn push_foot(
     sheet.text.push_str("</svg>\n")
 }
 
-/// Draws a scene as an SVG document (SVG 1.1): a row for each command line and each anacron job, with bars
-/// over the minutes in which its runs may go on and marks at its due minutes.
+/// Draws a scene as an SVG document (SVG 1.1): a row for each command line and each anacron job,
+/// with bars over the minutes in which its runs may go on and marks at its due minutes.
 ///
-/// A row is named by the number or the place of its line and by what that runs, or by the identifier of
-/// its anacron job, and shows the whole command where the pointer rests; what is no UTF-8 and what may not
-/// stand in XML shows as U+FFFD. Where due minutes or bars are nearer than the
-/// picture can show, they are drawn as one, and a line at the foot says so. With declarations each job has
-/// its own longest time, its group has a colour, and below the rows is the load of each minute, the
-/// weights of the jobs of which a window holds it, beside the capacity. A run that waits for its lock may
-/// go on past its window; the picture says so where there is one. The only error is out of memory.
+/// Bytes that aren't UTF-8 and characters that XML doesn't allow are shown as U+FFFD. Due minutes
+/// or bars that are too near to be shown are drawn as one, and a line at the foot says so. A run
+/// that waits for its lock may go on past its window, and the picture says so.
 pub(crate) fn draw(alloc: Global, scene: &Scene<'_>) -> Result<String, AllocError>
     ensures { IfOk result (λ svg. IsPictureOf scene.now.span (map shown_of scene.now.rows.now)
         (string_bytes svg)) }

@@ -11,18 +11,18 @@ use cs_plan::{Group, Job as PlanJob, Plan};
 use cs_windows::Occupied;
 use std::alloc::{AllocError, Global};
 
-/// What holds of all jobs of two tables of which nothing is declared.
+/// What holds of all jobs of two tables without declarations.
 #[derive(Clone, Copy)]
 pub(crate) struct Terms {
-    /// The longest time that a run takes, in minutes from 1 to 4,320.
+    /// The longest time of a run, in minutes from 1 to 4,320.
     pub(crate) max: u16,
-    /// The catch-up hours: the minutes of a day from this one on at which an anacron job may be started,
+    /// The first minute of a day at which an anacron job may start,
     pub(crate) from: u16,
-    /// and below this one, up to 1,440.
+    /// and the first after them, at most 1,440.
     pub(crate) to: u16,
 }
 
-/// What names a job.
+/// The name of a job.
 #[derive(Clone, Copy)]
 pub(crate) enum Name<'a> {
     /// The number of a crontab's line, and its command.
@@ -31,11 +31,11 @@ pub(crate) enum Name<'a> {
     Job(&'a [u8]),
 }
 
-/// What is declared of a job, beside its longest time.
+/// What is declared of a job, besides its longest time.
 #[derive(Clone, Copy)]
 pub(crate) struct Declared<'a> {
     pub(crate) weight: u8,
-    /// The place of its group among the plan's, if it is in one,
+    /// The index of its group among the plan's,
     pub(crate) place: Option<u8>,
     /// and the group.
     pub(crate) group: Option<&'a Group>,
@@ -47,24 +47,21 @@ pub(crate) struct Declared<'a> {
 #[derive(Clone, Copy)]
 pub(crate) struct Row<'a> {
     pub(crate) name: Name<'a>,
-    /// What its runs occupy; nothing where it is started once, at reboot.
+    /// None for a job that starts once, at reboot.
     pub(crate) occupied: Option<Occupied<'a>>,
     /// The longest time of a run, in minutes.
     pub(crate) max: u16,
-    /// What is declared of it, if anything is.
     pub(crate) declared: Option<Declared<'a>>,
-    /// Where its line comes from, if it is one of a gathered table.
+    /// Where its line comes from, if the table was gathered.
     pub(crate) origin: Option<&'a Place>,
 }
 
 impl Row<'_> {
-    /// The place of its group, if it is in one.
     pub(crate) fn group(&self) -> Option<u8> {
         self.declared?.place
     }
 }
 
-/// What a plan says of a job.
 fn declared_of(plan: &Plan, job: PlanJob) -> Declared<'_> {
     let mut declared = Declared {
         weight: job.weight(),
@@ -82,7 +79,6 @@ fn declared_of(plan: &Plan, job: PlanJob) -> Declared<'_> {
     declared
 }
 
-/// The row of a command line.
 fn line_row<'a>(
     line: &'a Line,
     places: &'a [Place],
@@ -107,8 +103,8 @@ fn line_row<'a>(
     }
 }
 
-/// The row of an anacron job: from the first minute at which it may be started on, up to where a run
-/// ends that starts in the last.
+/// The row of an anacron job: its window goes from the first catch-up minute to the end of a run
+/// that starts in the last one.
 fn job_row<'a>(job: &'a Job, terms: Terms, declared: Option<Declared<'a>>) -> Row<'a>
     ensures { shown_of result ≡ windows_of_anacron terms }
 {
@@ -125,7 +121,6 @@ fn job_row<'a>(job: &'a Job, terms: Terms, declared: Option<Declared<'a>>) -> Ro
     }
 }
 
-/// The rows of two tables of which nothing is declared.
 pub(crate) fn table_rows<'a>(
     alloc: Global,
     table: &'a Crontab,
@@ -146,7 +141,6 @@ pub(crate) fn table_rows<'a>(
     Ok(rows)
 }
 
-/// The row of an anacron job of a plan, by the job's number.
 fn plan_row<'a>(plan: &'a Plan, job: &'a Job, number: u16) -> Row<'a>
     ensures { shown_of result ≡ windows_of_anacron (terms_at plan.now number) }
 {
@@ -160,7 +154,6 @@ fn plan_row<'a>(plan: &'a Plan, job: &'a Job, number: u16) -> Row<'a>
     job_row(job, terms, Some(declared_of(plan, declared)))
 }
 
-/// The rows of the jobs of a plan.
 pub(crate) fn plan_rows<'a>(
     alloc: Global,
     plan: &'a Plan,

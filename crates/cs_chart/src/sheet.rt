@@ -1,33 +1,33 @@
-//! The sheet that a part of a picture is drawn on, from its top to its foot.
+//! A sheet on which a part of a picture is drawn, from top to foot.
 use crate::span::DaySpan;
 use std::alloc::AllocError;
 use std::fmt::Write;
 
-/// Where the names of rows begin, in pixels from the left, as all lengths here.
+/// The left edge of the rows' names; all lengths here are pixels.
 pub(crate) const MARGIN: u32 = 10;
 
-/// Where the first day begins.
+/// The left edge of the first day.
 pub(crate) const PLOT_LEFT: u32 = 256;
 
-/// How wide all days are together.
+/// The width of all days.
 pub(crate) const PLOT_WIDTH: u32 = 840;
 
-/// Where the last day ends.
+/// The right edge of the last day.
 pub(crate) const PLOT_RIGHT: u32 = PLOT_LEFT + PLOT_WIDTH;
 
-/// How many cells of a name have room before the first day.
+/// How many cells of a name fit before the first day.
 pub(crate) const NAME_CELLS: usize = 36;
 
-/// How high a row is.
+/// The height of a row.
 pub(crate) const ROW: u32 = 18;
 
-/// How many rows stand between one line of hours and the next.
+/// How many rows are between two lines of hours.
 pub(crate) const ROWS_OF_HOURS: u32 = 40;
 
-/// How high a line of hours is.
+/// The height of a line of hours.
 pub(crate) const HOURS: u32 = 16;
 
-/// A part of a picture without rows: what has been written of it, and how far down it has come.
+/// A part of a picture without rows: its text and how far down it goes.
 #[derive(Drop)]
 pub(crate) struct Sheet {
     pub(crate) text: String,
@@ -36,7 +36,6 @@ pub(crate) struct Sheet {
 }
 
 impl Sheet {
-    /// Goes down so far.
     pub(crate) fn down(&mut self, by: u32) {
         self.y = self.y.saturating_add(by);
     }
@@ -46,15 +45,15 @@ impl Sheet {
         self.y.saturating_add(by)
     }
 
-    /// Adds a line of text at the margin, so far below.
+    /// Adds a line of text at the margin.
     pub(crate) fn push_line(&mut self, below: u32, text: &str) -> Result<(), AllocError> {
         let y = self.below(below);
         write!(self.text, "<text x=\"{MARGIN}\" y=\"{y}\">{text}</text>\n")
     }
 }
 
-/// Begins a part from this top on, as wide as the days, in which a place from the left is a minute of the
-/// picture, and a place from the top one of so many steps.
+/// Begins a part with its own scales: minutes of the picture from left to right, and steps from top
+/// to foot.
 pub(crate) fn begin_plot(
     text: &mut String,
     span: DaySpan,
@@ -70,7 +69,7 @@ pub(crate) fn begin_plot(
     )
 }
 
-/// The place of a minute of the picture from the left.
+/// The distance of a minute of the picture from the left.
 pub(crate) fn place_of(minute: u32, span: DaySpan) -> u32 {
     let minutes = span.minutes();
     let along = u64::from(PLOT_WIDTH) * u64::from(minute.min(minutes)) / u64::from(minutes.max(1));

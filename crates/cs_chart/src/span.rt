@@ -1,10 +1,9 @@
-//! The days of a picture.
 ghost use Rattle.std.specs.Prelude.{◌≡◌, ◌+◌, ◌*◌, ◌<◌, ◌≤◌};
 
 use cs_civil::{Day, MINUTES_OF_DAY};
 use std::marker::Model;
 
-/// The first day of which windows can be drawn, 1970-01-04: they may begin three days before it.
+/// 1970-01-04, the first day: its windows may begin three days before.
 const FIRST_DAY: u64 = 3;
 
 /// 9999-12-31, the last day.
@@ -13,7 +12,7 @@ const LAST_DAY: u64 = 2_932_896;
 /// The most days of a picture.
 pub(crate) const MOST_DAYS: u8 = 7;
 
-/// Successive days, one to seven, from 1970-01-04 on and none past 9999-12-31.
+/// Successive days, one to seven, from 1970-01-04 to 9999-12-31.
 #[derive(Clone, Copy)]
 pub(crate) struct DaySpan {
     start: Day,
@@ -48,7 +47,6 @@ impl DaySpan {
         }
     }
 
-    /// How many days.
     pub(crate) fn days(self) -> u8
         ensures value { result ≡ self.days }
         ensures shown { AreShown self }
@@ -56,7 +54,6 @@ impl DaySpan {
         self.count
     }
 
-    /// How many minutes.
     pub(crate) fn minutes(self) -> u32
         ensures value { result ≡ MINUTES_OF_DAY * self.days }
         ensures few { result ≤ 10_080 }

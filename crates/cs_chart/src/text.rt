@@ -6,16 +6,16 @@ use std::alloc::AllocError;
 use std::fmt::Write;
 use unicode_width::UnicodeWidthChar;
 
-/// How many cells of a label have room, as of a group's name after the days.
+/// How many cells of a label fit, such as the name of a group.
 const LABEL_CELLS: usize = 16;
 
-/// How many cells of a fixed width a character takes, one at least: so no text goes on for ever in none.
+/// How many cells of fixed width a character takes; at least one, so that each text has an end.
 fn cells_of(character: char) -> usize {
     character.width().unwrap_or(1).max(1)
 }
 
-/// Adds a character of a text. A tab becomes a blank, and what may not stand in XML, or moves what is
-/// written round it, U+FFFD.
+/// Adds a character. A tab becomes a blank; what XML doesn't allow, or what moves the text around
+/// it, becomes U+FFFD.
 fn push_character(text: &mut String, character: char) -> Result<(), AllocError> {
     let escaped = match character {
         '&' => "&amp;",

@@ -1,4 +1,4 @@
--- Where the first two rules hold, each stretch in use is good and each waiting job has a reach, no
+-- If the first two rules hold, each stretch in use is good and each waiting job has a reach, no
 -- fault is found.
 use Rattle.std.proofs.Common.{◌≡◌, ℕ, ◌-◌, ◌<◌, ◌≤◌, Bool, true, false, cond, List, [], ◌∷◌, filter, map, Option, None, All, refl, ap, subst, arith}
 use Rattle.std.specs.Prelude.{unwrap_or}
@@ -61,7 +61,6 @@ recursion_from : (P : Stretch → Type 0) (see : UsedStretch → Stretch) (us : 
 recursion_from P see [] h = tt
 recursion_from P see (u ∷ us) h = (All-head (λ (v : UsedStretch). P (see v)) u us h, recursion_from P see us (All-tail (λ (v : UsedStretch). P (see v)) u us h))
 
--- where the quick test found nothing, there is nothing
 pub quiet_is_none : (k : Case) (us : List UsedStretch) → IsCase k → AreStretches k us → AreGood k us → HaveReaches (as_plan k.plan.now) (as_certificate (said k.claim.now)) → claim_fault k.plan.now (said k.claim.now) ≡ None
 unfolding claim_fault
 quiet_is_none k us is listed good reaches =

@@ -1,4 +1,3 @@
--- The test whether a reach is far enough, by the classes of a stretch.
 use Rattle.std.proofs.Common.{◌≡◌, ℕ, ◌<◌, ◌-◌, Bool, if◌then◌else◌, true, false, not, ◌||◌, List, [], ◌∷◌, map, length, refl, ap, sym, ◌∙◌, subst, arith, ◌↔◌}
 use Rattle.std.specs.Prelude.{unwrap_or, IsTrue}
 use Rattle.std.proofs.lemmas.Bool.{lt-ltb}
@@ -16,8 +15,6 @@ use Rattle.cs_theorem.proofs.Stretches.{map_twice}
 use Rattle.cs_theorem.proofs.Points.{tells_clears}
 use Rattle.cs_check.specs.Stretches.{clears_on}
 
--- after each due minute of the job on the first day of the stretch the bound of its group is zero
--- within the reach
 abbrev ClearsOn : Plan → Certificate → Stretch → ℕ → ℕ → Type 0
 ClearsOn p a s j r = (m : ℕ) → m < 1440 → a.due (nth s.of 0) j m ≡ true → ClearsBy (map (λ class. a.bound class (unwrap_or (p.group j) 0)) s.of) m r
 
@@ -28,7 +25,6 @@ tells_on p plan a j r s =
     (λ m. tells_if (a.due (nth s.of 0) j m) (clears_by (map (λ class. a.bound class (unwrap_or (p.group j) 0)) s.of) m r) (ClearsBy (map (λ class. a.bound class (unwrap_or (p.group j) 0)) s.of) m r)
     (tells_clears p plan (λ _ _ _. false) a 1 (omega arith) (map (λ class. a.bound class (unwrap_or (p.group j) 0)) s.of) m r))
 
--- a test is what decides the same
 pub tells_is : (x y : Bool) (P : Type 0) → (x ≡ true → P) × (P → x ≡ true) → Tells y P → x ≡ y
 tells_is true true P s t = refl
 tells_is true false P s t = absurd (let e = t.1 (s.0 refl) in cc)
@@ -49,7 +45,6 @@ module _ (p : Plan) (plan : IsPlan p) (c : Claimed) (s : Stretch) (j r : ℕ) (s
   from_on : ClearsOn p (as_certificate c) s j r → Clears p (map (class_at c.classes) s.of) j r
   from_on h m lt due = subst (λ (bs : List (ℕ → ℕ)). ClearsBy bs m r) (sym bounds_are) (h m lt (sym (ap (λ (class : Class). is_due_in class j m) (first_is c.classes s.of some)) ∙ due))
 
-  -- what the classes of the stretch decide is the test
   pub clears_is : (x : Bool) (classes : List Class) → classes ≡ map (class_at c.classes) s.of → (IsTrue x ↔ Clears p classes j r) → x ≡ clears_on p (as_certificate c) j r s
   clears_is x classes e is =
       tells_is x (clears_on p (as_certificate c) j r s) (ClearsOn p (as_certificate c) s j r)
@@ -64,7 +59,6 @@ more_days b bs m r h =
     first_day : (b : ℕ → ℕ) (xs ys : List (ℕ → ℕ)) (m : ℕ) → m < 1440 → at_days (b ∷ xs) m ≡ 0 → at_days (b ∷ ys) m ≡ 0
     first_day b xs ys m lt e = let is = lt-ltb m 1440 lt in ap (λ (t : Bool). if t then b m else at_days ys (m - 1440)) is ∙ sym (ap (λ (t : Bool). if t then b m else at_days xs (m - 1440)) is) ∙ e
 
--- so a job that has had its lock on the first day itself has had it
 pub clears_alone : (p : Plan) → IsPlan p → (c : Claimed) (s : Stretch) (j r : ℕ) → 0 < length s.of → Clears p (class_at c.classes (nth s.of 0) ∷ []) j r → clears_on p (as_certificate c) j r s ≡ true
 clears_alone p plan c s j r some h = (tells_on p plan (as_certificate c) j r s).1 (on s.of some h)
   where

@@ -1,4 +1,3 @@
--- What a complete tree lists at each minute.
 use Rattle.std.proofs.Common.{◌≡◌, ℕ, ◌+◌, ◌<◌, true, Bor, List, None, Some, option_map, ap, subst, arith}
 use Rattle.cs_classes.specs.Used.{seen}
 use Rattle.cs_classes.specs.declared.used.UsedStretch.{UsedStretch}
@@ -22,7 +21,6 @@ covered_from tree ws complete m lt =
     all_zip (Has ws) (λ w. touches w m (m + 1) ≡ true) (λ w. lists (entries_at tree m) w ≡ true) (holders m ws) (λ w has t. complete m lt w (has_contains ws w has) (held w m t))
     (all-filter (Has ws) (λ w. touches w m (m + 1)) ws (all_from_has (Has ws) ws (λ w h. h))) (all_passes (λ w. touches w m (m + 1)) ws)
 
--- the tree of a stretch in use, if there is one
 pub tree_seen : (u : UsedStretch) (tree : Bor MinuteTree) → u.tree ≡ Some tree → (seen u).tree ≡ Some (tree_of tree.now)
 tree_seen u tree is = ap (option_map (λ (b : Bor MinuteTree). tree_of b.now)) is
 

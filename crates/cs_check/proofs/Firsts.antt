@@ -1,4 +1,3 @@
--- The first fault of all, by where it is found.
 use Rattle.std.proofs.Common.{◌≡◌, ℕ, Bool, not, ◌||◌, Option, None, Some, refl, ap, sym, ◌∙◌}
 use Rattle.cs_plan.specs.Plan.{Declared, as_plan}
 use Rattle.cs_classes.specs.Claim.{Claimed, as_certificate}
@@ -41,7 +40,6 @@ module _ (p : Plan) (on : ℕ → Kind → ℕ → Bool) (a : Certificate) (n : 
   pub later_last : due_fault p on a ≡ None → stretch_fault a n ≡ None → first_fault p on a n ≡ later_fault p a n (used_stretches a n)
   later_last none complete = first_is ∙ (ap (λ (o : Option Fault). or_else o (or_else (stretch_fault a n) rest)) none ∙ (ap (λ (o : Option Fault). or_else o rest) complete ∙ rest_is))
 
--- the same of a plan and a certificate
 pub unlike_first : (d : Declared) (c : Claimed) (f : Fault) → due_fault (as_plan d) (due_on d) (as_certificate c) ≡ Some f → claim_fault d c ≡ Some f
 unfolding claim_fault
 unlike_first d c f e = one_first (as_plan d) (due_on d) (as_certificate c) (days_by d c.reach) f e

@@ -1,4 +1,3 @@
--- The numbers of a plan with a certificate are in range.
 use Rattle.std.proofs.Common.{◌≡◌, ℕ, ◌≤◌, ◌+◌, ◌-◌, Bool, true, false, ◌&&◌, List, [], ◌∷◌, Some, if◌then◌else◌, cond, nat_eq, nat_lt, nat_le, arith}
 use Rattle.std.specs.Prelude.{unwrap_or}
 use Rattle.std.specs.List.{list_all}

@@ -1,4 +1,4 @@
--- Where no fault is found, every legal history in time is safe.
+-- If no fault is found, every legal history in time is safe.
 use Rattle.std.proofs.Common.{◌≡◌, ℕ, ◌+◌, ◌*◌, ◌/◌, ◌%◌, ◌<◌, ◌≤◌, List, [], ◌∷◌, length, Some, None, refl, sym, ap, ◌∙◌, arith}
 use Rattle.cs_civil.specs.Calendar.{kind}
 use Rattle.cs_history.specs.History.{History, From, ◌▸◌, IsSafe, IsSafeNow, running}
@@ -104,6 +104,5 @@ stays d c fit e = claim_stays d (claimed d c) fit (sym (fault_is d c) ∙ e)
 pub few : (d : Declared) (c : Content) → IsFit d c.reach → fault_of d c ≡ None → AreFew (as_plan d)
 few d c fit e = claim_few d (claimed d c) fit (sym (fault_is d c) ∙ e)
 
--- the fault of what the certificate stands for
 pub same_fault : (d : Declared) (c : Content) (k : Claimed) → k ≡ claimed d c → claim_fault d k ≡ fault_of d c
 same_fault d c k same = ap (claim_fault d) same ∙ sym (fault_is d c)

@@ -1,4 +1,3 @@
--- What is known of each class, from what is known of each number.
 use Rattle.std.proofs.Common.{◌≡◌, ℕ, zero, suc, ◌+◌, ◌++◌, List, [], ◌∷◌, map, length, Some, Ok, Err, Result, Vec, Global, refl, sym, ap, ◌∙◌, subst, arith}
 use Rattle.std.specs.Prelude.{slice_get, IfOk, MatchResult, Contains}
 use Rattle.std.specs.List.{AllZip, range_with_len}
@@ -10,7 +9,6 @@ use Rattle.cs_check.specs.ClassDays.{AreClassDays, IsClassDay}
 use Rattle.cs_check.specs.declared.class_day.ClassDay.{ClassDay}
 use Rattle.cs_classes.proofs.Collected.{of_answers}
 
--- what holds of each element at its place still holds after one more that has it
 pub each_push : {X : Type 0} (P : ℕ → X → Type 0) (xs : List X) (x : X) → ((n : ℕ) (y : X) → slice_get xs n ≡ Some y → P n y) → P (length xs) x → (n : ℕ) (y : X) → slice_get (xs ++ x ∷ []) n ≡ Some y → P n y
 each_push P [] x h p zero y e = subst (P 0) (cc) p
 each_push P [] x h p (suc n) y e = absurd (cc)
@@ -30,7 +28,6 @@ at_number P a (suc n) [] h i y e = absurd h
 at_number P a (suc n) (z ∷ ys) h zero y e = let same : a ≡ a + 0 = omega arith in subst (λ (k : ℕ). P k y) same (subst (P a) (cc) h.0)
 at_number P a (suc n) (z ∷ ys) h (suc i) y e = let same : (a + 1) + i ≡ a + suc i = omega arith in subst (λ (k : ℕ). P k y) same (at_number P (a + 1) n ys h.1 i y e)
 
--- the days of the classes, from what was answered for each number
 pub days_of_numbers : (d : Declared) (c : Claimed) (n : ℕ) (numbers : List ℕ) (answers : List (Result ClassDay AllocError)) (r : Result (Vec ClassDay Global) AllocError) → n ≡ length c.classes → numbers ≡ range_with_len 0 n
     → AllZip (λ number (answer : Result ClassDay AllocError). IfOk answer (IsClassDay d c number)) numbers answers
     → MatchResult r (λ v. (ys : List ClassDay) × (answers ≡ map Ok ys) × (v.items ≡ ys)) (λ e. Contains answers (Err e))

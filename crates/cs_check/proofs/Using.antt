@@ -1,4 +1,3 @@
--- What follows for a stretch in use.
 use Rattle.std.proofs.Common.{◌≡◌, ℕ, ◌<◌, ◌≤◌, List, length, None, ap, sym, ◌∙◌, arith, get_or}
 use Rattle.std.proofs.lemmas.List.{length-map}
 use Rattle.cs_civil.specs.Calendar.{Kind}
@@ -19,7 +18,6 @@ use Rattle.cs_check.specs.declared.case.Case.{Case}
 use Rattle.cs_check.specs.Stretches.{IsCase}
 use Rattle.cs_check.proofs.Headline.{length_of}
 
--- the windows of the kinds are those that the rules speak of
 pub windows_are : (d : Declared) (c : Claimed) (n : ℕ) (kinds : List Kind) (of : List ℕ) → IsFit d c.reach → due_fault (as_plan d) (due_on d) (as_certificate c) ≡ None → HaveClasses c n of kinds → windows_on (planned d c.reach) kinds ≡ windows_of (as_plan d) (as_certificate c) of
 windows_are d c n kinds of fit due have =
     by_kinds (as_plan d) (due_on d) (as_certificate c) ((says_one (as_plan d) fit.plan (due_on d) (as_certificate c) (days_by d c.reach) (omega (arith, (length_of d c.reach fit).range.0))).0 due) kinds have.chain

@@ -1,4 +1,3 @@
--- A run that stays in its window.
 use Rattle.std.proofs.Common.{◌≡◌, ℕ, ◌+◌, ◌-◌, ◌%◌, ◌<◌, ◌≤◌, ◌==◌, Bool, true, if◌then◌else◌, subst}
 use Rattle.std.specs.List.{AllByRecursion}
 use Rattle.cs_history.proofs.Lists.{all_map}

@@ -10,7 +10,7 @@ use Rattle.cs_history.specs.Plan.{IsPlan}
 use Rattle.cs_theorem.specs.Accepted.{IsAccepted, IsModest}
 use Rattle.cs_theorem.specs.Faults.{Fault, first_fault}
 
--- the reach of a job
+-- the reach of a job: the one that the certificate lists, else its declared time
 abbrev pub reach_for : Declared → Content → ℕ → ℕ
 reach_for d c = reach_by d c.reach
 
@@ -18,7 +18,7 @@ reach_for d c = reach_by d c.reach
 abbrev pub length_for : Declared → Content → ℕ
 length_for d c = days_by d c.reach
 
--- the first fault of what is claimed, if there is one
+-- the first fault of what is claimed
 unfoldable pub claim_fault : Declared → Claimed → Option Fault
 claim_fault d c = first_fault (as_plan d) (due_on d) (as_certificate c) (days_by d c.reach)
 
@@ -26,7 +26,7 @@ claim_fault d c = first_fault (as_plan d) (due_on d) (as_certificate c) (days_by
 abbrev pub IsAcceptedClaim : Declared → Claimed → Type 0
 IsAcceptedClaim d c = IsAccepted (as_plan d) (due_on d) (as_certificate c) (days_by d c.reach)
 
--- the first fault of a certificate, if there is one: of what it stands for
+-- the first fault of a certificate: that of what it stands for
 unfoldable pub fault_of : Declared → Content → Option Fault
 fault_of d c = claim_fault d (claimed d c)
 
@@ -34,7 +34,7 @@ fault_of d c = claim_fault d (claimed d c)
 abbrev pub IsAcceptedWith : Declared → Content → Type 0
 IsAcceptedWith d c = IsAcceptedClaim d (claimed d c)
 
--- numbers in range and names resolved
+-- numbers in range, names resolved, and no job takes or waits longer than three days
 pub record IsFit (d : Declared) (reach : List JobReach) : Type 0 where
   pub plan : IsPlan (as_plan d)
   pub modest : IsModest (as_plan d) (reach_by d reach)

@@ -1,4 +1,3 @@
--- What is known of a plan that was checked.
 use Rattle.std.specs.Prelude.{◌≡◌, ℕ, ◌≤◌, Option, Some, ⊤, length}
 use Rattle.std.specs.List.{AllByRecursion}
 use Rattle.cs_plan.specs.Plan.{Declared, as_plan}
@@ -16,7 +15,6 @@ use Rattle.cs_theorem.specs.Told.{told}
 use Rattle.cs_check.specs.declared.fault.CheckError.{CheckError}
 use Rattle.cs_check.specs.declared.fault.CheckError.TheVariants as errors
 
--- the plan that was checked, and the certificate that it was checked with
 abbrev pub plan_in : Checked → Declared
 plan_in c = c.plan
 
@@ -24,8 +22,8 @@ abbrev pub certificate_in : Checked → Content
 certificate_in c = content c.certificate
 
 -- every legal history in which each run ends within its declared time is safe: no two runs of an
--- exclusive group run at once, two that both hold its lock shared excepted, the capacity is never
--- exceeded, and no due minute of a skip job is skipped
+-- exclusive group run at once, unless both hold its lock shared; the capacity is never exceeded;
+-- and no due minute of a skip job is skipped
 abbrev pub IsHeadline : Plan → Type 0
 IsHeadline p = (h : History) → IsLegal p h → IsInTime p h → IsSafe p h
 
@@ -38,17 +36,17 @@ StayInWindows p c = (h : History) → IsLegal p h → IsInTime p h
 abbrev pub IsCalmThroughout : Plan → (ℕ → ℕ) → Type 0
 IsCalmThroughout p c = (t : ℕ) → IsReached t → IsCalm p c t
 
--- out of memory, or the fault
+-- the error is this fault, or out of memory
 abbrev pub Tells : Option Fault → CheckError → Type 0
 Tells o (errors.Fault f) = o ≡ Some (told f)
 Tells o errors.OutOfMemory = ⊤
 
--- a fault is answered only where the eight rules don't all hold
+-- a fault is answered only if the eight rules don't all hold
 abbrev pub IsBroken : Declared → Content → CheckError → Type 0
 IsBroken d c (errors.Fault f) = IsAcceptedWith d c → ⊥
 IsBroken d c errors.OutOfMemory = ⊤
 
--- the length of the stretches in use: the smallest of 2, 3, 4 days that no window outlasts
+-- the length of the stretches: the smallest of 2, 3, 4 days that no window outlasts
 abbrev pub IsLengthFor : Declared → Content → ℕ → Type 0
 IsLengthFor d c n = IsLength (as_plan d) (due_on d) (reach_for d c) n
 

@@ -1,4 +1,3 @@
--- What is known of the days of each class.
 use Rattle.std.specs.Prelude.{◌≡◌, ℕ, ◌<◌, ◌≤◌, ◌∷◌, [], IsTrue, true, List, length, map, None, Some, slice_get}
 use Rattle.cs_plan.specs.Plan.{Declared, as_plan, crons}
 use Rattle.cs_claims.specs.declared.class.Class.{Class}
@@ -23,27 +22,24 @@ pub record IsBasis (b : Basis) : Type 0 where
   pub few : length b.occupied.items ≤ 320
   pub nothing : b.none.now ≡ []
 
--- on a day of the class the job, if it waits and has a reach, has had its lock within it
+-- on a day of the class the job, if it waits and has a reach, has had its lock within the reach
 abbrev pub Settles : Declared → Claimed → Class → ℕ → Type 0
 Settles d c class j = waits (as_plan d) j ≡ true → (r : ℕ) → (as_certificate c).reach j ≡ Some r
     → Clears (as_plan d) (class ∷ []) j r
 
--- each job
 abbrev pub Settle : Declared → Claimed → Class → Type 0
 Settle d c class = (j : ℕ) → j < crons d → Settles d c class j
 
--- the locks on a day of the class, and whether all jobs that wait settle
+-- the locks on a day of the class; if `settles` is true, all jobs that wait settle
 pub record IsClassDay (d : Declared) (c : Claimed) (class : ℕ) (day : ClassDay) : Type 0 where
   pub groups : AreGroupDays (as_plan d) (class_at c.classes class) day.groups.items
   pub settles : IsTrue day.settles → Settle d c (class_at c.classes class)
 
--- of each class, by number
 pub record AreClassDays (d : Declared) (c : Claimed) (days : List ClassDay) : Type 0 where
   pub long : length days ≡ length c.classes
   pub each : (class : ℕ) (day : ClassDay) → slice_get days class ≡ Some day
       → IsClassDay d c class day
 
--- a basis is of this plan and this certificate
 pub record IsBasisOf (d : Declared) (c : Claimed) (b : Basis) : Type 0 where
   pub basis : IsBasis b
   pub plan : b.plan.now ≡ d

@@ -25,21 +25,19 @@ use Rattle.cs_classes.specs.declared.used.UsedStretch.{UsedStretch}
 use Rattle.cs_check.specs.declared.order.Rule.{Rule}
 use Rattle.cs_check.specs.declared.order.Rule.TheVariants as rules
 
--- the plan of a case and its certificate, as the rules see them
 abbrev pub plan_of : Case → Plan
 plan_of k = as_plan k.plan.now
 
 abbrev pub claim_of : Case → Certificate
 claim_of k = as_certificate (said k.claim.now)
 
--- the classes of a stretch in use, and the windows there
 abbrev pub classes_in : Case → UsedStretch → List Class
 classes_in k u = map (class_at (said k.claim.now).classes) u.of.now
 
 abbrev pub windows_in : Case → UsedStretch → List Window
 windows_in k u = windows_of (plan_of k) (claim_of k) u.of.now
 
--- the fault of a stretch by each of the rules that are looked at stretch by stretch
+-- the fault of a stretch by each of the rules that are checked stretch by stretch
 abbrev pub steps_fault : Plan → Certificate → ℕ → Stretch → Option Fault
 steps_fault p a n s =
     option_map (λ f. BacklogRises f.1 (minute_of a n s f.0 - 1440)) (rise_in p a n s)
@@ -67,7 +65,7 @@ fault_by rules.Collisions = collisions_fault
 fault_by rules.Capacity = capacity_fault
 fault_by rules.Skips = skips_fault
 
--- backlog steps: the bounds of the groups follow what arrives, from the last day but one to the
+-- backlog steps: the bounds of the groups follow the arrivals, from the last day but one to the
 -- last
 abbrev pub StepsHold : Plan → Certificate → ℕ → Stretch → Type 0
 StepsHold p a n s = (g : ℕ) → g < p.groups → has_waiter p g ≡ true
@@ -81,15 +79,16 @@ clears_on p a j reach s = list_all
     (λ m. not (a.due (nth s.of 0) j m)
     || clears_by (map (λ class. a.bound class (unwrap_or (p.group j) 0)) s.of) m reach) day_minutes
 
--- reaches: that of the job, if it waits and has one, is long enough; and each
+-- reaches: that of the job, if it waits and has one, is long enough
 abbrev pub ReachHolds : Plan → Certificate → Stretch → ℕ → Type 0
 ReachHolds p a s j =
     (r : ℕ) → waits p j ≡ true → a.reach j ≡ Some r → clears_on p a j r s ≡ true
 
+-- and that of each job
 abbrev pub ReachesHold : Plan → Certificate → Stretch → Type 0
 ReachesHold p a s = (j : ℕ) → j < p.crons → ReachHolds p a s j
 
--- the rules that are looked at stretch by stretch hold of it
+-- the rules that are checked stretch by stretch hold of it
 pub record IsGood (p : Plan) (a : Certificate) (n : ℕ) (s : Stretch) : Type 0 where
   pub steps : StepsHold p a n s
   pub reaches : ReachesHold p a s
@@ -113,7 +112,7 @@ pub record IsCase (k : Case) : Type 0 where
   pub class_days : AreClassDays k.plan.now (said k.claim.now) k.class_days.items
   pub nothing : k.none.now ≡ []
 
--- whether the job, if it waits, has a reach that is long enough on each of these stretches
+-- whether the job has a reach that is long enough on each of these stretches
 abbrev pub reaches_far : Plan → Certificate → List Stretch → ℕ → Option ℕ → Bool
 reaches_far p a stretches j None = false
 reaches_far p a stretches j (Some reach) = list_all (clears_on p a j reach) stretches
@@ -121,27 +120,26 @@ reaches_far p a stretches j (Some reach) = list_all (clears_on p a j reach) stre
 abbrev pub is_far : Plan → Certificate → List Stretch → ℕ → Bool
 is_far p a stretches j = not (waits p j) || reaches_far p a stretches j (a.reach j)
 
--- reaches: the first job
+-- reaches: the first waiting job without one that is long enough
 abbrev pub reaches_fault : Plan → Certificate → List Stretch → Option Fault
 reaches_fault p a stretches =
     first_of (λ j. unless (is_far p a stretches j) (ReachTooShort j)) (below p.crons)
 
--- in these stretches: the first fault by the rules on windows, and by all but the first two rules
+-- the first fault of these stretches by the rules on windows
 unfoldable pub windows_fault : Plan → Certificate → ℕ → List Stretch → Option Fault
 windows_fault p a n stretches = or_else (first_of (leaves_fault p a n) stretches)
     (or_else (first_of (collisions_fault p a n) stretches)
     (or_else (first_of (capacity_fault p a n) stretches)
     (first_of (skips_fault p a n) stretches)))
 
+-- by all but the first two rules
 unfoldable pub later_fault : Plan → Certificate → ℕ → List Stretch → Option Fault
 later_fault p a n stretches = or_else (first_of (steps_fault p a n) stretches)
     (or_else (reaches_fault p a stretches) (windows_fault p a n stretches))
 
--- the stretches in use, as the rules see them
 abbrev pub all_seen : List UsedStretch → List Stretch
 all_seen stretches = map seen stretches
 
--- each stretch is good
 abbrev pub AreGood : Case → List UsedStretch → Type 0
 AreGood k stretches = All (IsGoodIn k) stretches
 
@@ -152,11 +150,9 @@ pub record AreStretches (k : Case) (stretches : List UsedStretch) : Type 0 where
   pub in_use : All (IsInUse (said k.claim.now) k.days) stretches
   pub complete : stretch_fault (as_certificate (said k.claim.now)) k.days ≡ None
 
--- each job that waits has a reach
 abbrev pub HaveReaches : Plan → Certificate → Type 0
 HaveReaches p a = (j : ℕ) → j < p.crons → waits p j ≡ true → (r : ℕ) × (a.reach j ≡ Some r)
 
--- a case is of this plan and this certificate
 pub record IsCaseOf (d : Declared) (c : Claimed) (k : Case) : Type 0 where
   pub case : IsCase k
   pub plan : k.plan.now ≡ d

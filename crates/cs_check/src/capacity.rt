@@ -10,7 +10,6 @@ use cs_classes::UsedStretch;
 use cs_theorem::CheckFault;
 use std::alloc::{AllocError, Global};
 
-/// The first minute of the last day at which the windows exceed the capacity.
 pub(crate) fn first_fault(
     alloc: Global,
     case: &Case<'_>,

@@ -1,4 +1,3 @@
-//! What is known of a plan and a certificate before the stretches are looked at.
 ghost use Rattle.std.specs.Prelude.{◌≡◌, ◌<◌, ◌≤◌, IfOk, length, map, take};
 ghost use Rattle.cs_classes.specs.Said.{said};
 ghost use Rattle.cs_check.specs.ClassDays.{AreClassDays, IsBasis, IsClassDay};
@@ -26,19 +25,17 @@ use std::alloc::{AllocError, Global};
 pub(crate) struct Case<'a> {
     pub(crate) plan: &'a Plan,
     pub(crate) claim: &'a Claim<'a>,
-    /// The days of a stretch.
+    /// How many days a stretch has, from 2 to 4.
     pub(crate) days: u8,
-    /// What each job occupies, by number.
     pub(crate) occupied: Vec<Occupied<'a>>,
     pub(crate) roles: Roles,
-    /// The day of each class, by the number of the class.
+    /// By the number of the class.
     pub(crate) class_days: Vec<ClassDay>,
     /// The bound of groups that have none.
     pub(crate) none: &'a Backlog,
 }
 
 impl<'a> Case<'a> {
-    /// The days of a stretch: 2 to 4.
     #[tactic(auto, using(crate::proofs::Using::days_range))]
     pub(crate) fn days(&self) -> usize
         requires { IsCase self.now }
@@ -48,14 +45,12 @@ impl<'a> Case<'a> {
         usize::from(self.days)
     }
 
-    /// The reach of a cron job, if it has one.
     pub(crate) fn reach_of(&self, number: usize) -> Option<u16>
         ensures { result ≡ (claim_of self.now).reach number }
     {
         reach_of(self.claim.reach(), number)
     }
 
-    /// The class of the day at this place of a stretch in use.
     #[tactic(auto, using(crate::proofs::Using::long_as_kinds))]
     pub(crate) fn class_on(&self, used: &UsedStretch<'_>, place: usize) -> &'a Class
         requires case { IsCase self.now }
@@ -68,7 +63,7 @@ impl<'a> Case<'a> {
         &self.claim.classes()[number as usize]
     }
 
-    /// The classes of the days of a stretch in use, and the first of them after those.
+    /// The classes of the days of a stretch in use, filled up to four with the first of them.
     pub(crate) fn classes_of(&self, used: &UsedStretch<'_>) -> [&'a Class; 4]
         requires case { IsCase self.now }
         requires in_use { IsInUse (said self.now.claim.now) self.now.days used.now }
@@ -84,7 +79,6 @@ impl<'a> Case<'a> {
         classes
     }
 
-    /// The day at this place of a stretch in use.
     pub(crate) fn day_on(&self, used: &UsedStretch<'_>, place: usize) -> &ClassDay
         requires case { IsCase self.now }
         requires in_use { IsInUse (said self.now.claim.now) self.now.days used.now }
@@ -96,7 +90,6 @@ impl<'a> Case<'a> {
         &self.class_days.as_slice()[number as usize]
     }
 
-    /// The windows of a stretch in use, in order of start. The only error is out of memory.
     pub(crate) fn windows(
         &self,
         alloc: Global,
@@ -112,7 +105,6 @@ impl<'a> Case<'a> {
     }
 }
 
-/// The case with this basis and the day of each class. The only error is out of memory.
 pub(crate) fn case_of<'a>(
     alloc: Global,
     basis: Basis<'a>,

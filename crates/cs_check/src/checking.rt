@@ -1,4 +1,3 @@
-//! The checker, with one thread and with several.
 ghost use Rattle.std.specs.Prelude.{◌≡◌, [], IfErr, IfOk, IsTrue, None, OnOk};
 ghost use Rattle.cs_claims.specs.Certificate.{content};
 ghost use Rattle.cs_classes.specs.Said.{said};
@@ -31,7 +30,6 @@ pub(crate) fn look_at(plan: &Plan, certificate: &Certificate)
     let _reach = certificate.reach();
 }
 
-/// Nothing if each stretch is good, else the first fault.
 fn answer(
     alloc: Global,
     case: &Case<'_>,
@@ -55,7 +53,6 @@ fn answer(
     }
 }
 
-/// Nothing if the claim breaks no rule, else the first fault.
 fn judge_claim<W: CheckWorkers>(
     workers: &W,
     alloc: Global,
@@ -77,7 +74,6 @@ fn judge_claim<W: CheckWorkers>(
     answer(alloc, &case, stretches.as_slice(), good)
 }
 
-/// Nothing if what the certificate stands for breaks no rule, else the first fault.
 fn judge<W: CheckWorkers>(
     workers: &W,
     alloc: Global,
@@ -101,11 +97,9 @@ fn judge<W: CheckWorkers>(
     )
 }
 
-/// Accepts a plan with a certificate if and only if the eight rules of this profile hold, with
-/// stretches of as few days as the windows allow.
-///
-/// err: the first fault, of the rule with the smallest number and at its first place; `OutOfMemory`
-/// only if memory runs out.
+/// Accepts a plan with a certificate if the eight rules of this profile hold, with stretches of as
+/// few days as the windows allow. The error is else the first fault, of the rule with the smallest
+/// number and at its first place, or `OutOfMemory` if memory runs out.
 ///
 /// An accepted plan is safe: no legal history in which each run ends within its declared time has
 /// two runs of an exclusive group at once (unless both hold its lock shared), exceeds the declared

@@ -1,4 +1,3 @@
-//! The days of each class, worked out once for all stretches.
 ghost use Rattle.std.specs.Prelude.{◌≡◌, ◌<◌, IfOk, length};
 ghost use Rattle.cs_classes.specs.Said.{said};
 ghost use Rattle.cs_check.specs.ClassDays.{IsBasis, IsClassDay};
@@ -10,10 +9,10 @@ use cs_claims::Class;
 use cs_classes::{Claim, GroupDay, group_days};
 use std::alloc::{AllocError, Global};
 
-/// A day of a class.
+/// What the days of a class have, worked out once for all stretches.
 #[derive(Drop)]
 pub(crate) struct ClassDay {
-    /// The lock of each group.
+    /// The lock of each group, by the group's number.
     pub(crate) groups: Vec<GroupDay>,
     /// Whether each job that waits and has a reach has had its lock on the day itself.
     pub(crate) settles: bool,

@@ -13,19 +13,14 @@ use cs_wait::Backlog;
 use cs_windows::Occupied;
 use std::alloc::Global;
 
-/// A plan and a certificate whose classes have the due minutes of their kinds.
 #[derive(Drop)]
 pub(crate) struct Basis<'a> {
     pub(crate) plan: &'a Plan,
     pub(crate) claim: &'a Claim<'a>,
-    /// What each job occupies, by number.
     pub(crate) occupied: Vec<Occupied<'a>>,
-    /// The bound of groups that have none.
     pub(crate) none: &'a Backlog,
 }
 
-/// The basis of a plan and a certificate, or the fault of the first kind of day whose class has
-/// other due minutes.
 pub(crate) fn basis_of<'a, W: Workers>(
     workers: &W,
     alloc: Global,

@@ -1,7 +1,7 @@
 use cs_theorem::CheckFault;
 use std::alloc::AllocError;
 
-/// Why no plan was accepted.
+/// Why a plan wasn't accepted.
 #[derive(Drop)]
 pub enum CheckError {
     /// The certificate is refused for this fault.

@@ -1,4 +1,3 @@
-//! A quick test of one stretch in use, by all rules that are looked at stretch by stretch.
 ghost use Rattle.std.specs.Prelude.{IfOk, IsTrue};
 ghost use Rattle.cs_classes.specs.Said.{said};
 ghost use Rattle.cs_classes.specs.Used.{IsInUse};
@@ -9,8 +8,8 @@ use crate::{leaves, reaches, steps};
 use cs_classes::UsedStretch;
 use std::alloc::{AllocError, Global};
 
-/// Whether a stretch in use is good by all rules that are checked stretch by stretch. If not, the
-/// finders decide whether it has a fault. The only error is out of memory.
+/// Whether a stretch in use is good by all rules that are checked stretch by stretch. If it isn't,
+/// the finders decide whether it has a fault.
 pub(crate) fn is_good(
     alloc: Global,
     case: &Case<'_>,

@@ -1,4 +1,3 @@
-//! What the checker's words promise, drawn from them alone.
 ghost use Rattle.std.specs.Prelude.{◌≡◌, ℕ, ◌+◌, ◌<◌, ◌≤◌, true};
 ghost use Rattle.std.specs.List.{AllByRecursion};
 ghost use Rattle.cs_history.specs.Calm.{reach};
@@ -6,8 +5,8 @@ ghost use Rattle.cs_history.specs.History.{History, IsInTime, IsLegal, now, runn
 ghost use Rattle.cs_history.specs.Plan.{Plan, is_cron};
 ghost use Rattle.cs_check.specs.Checked.{StayInWindows};
 
-/// Lemma. Where runs stay in their windows, each cron run under way was due at its minute, and has
-/// not outlasted its window: its declared time, or what a run that waits for a lock may take.
+/// Lemma. If runs stay in their windows, each running cron run was due at its minute, and has not
+/// outlasted its window: its declared time, or what a run that waits for a lock may take.
 #[tactic(auto, using(crate::proofs::Windows::within))]
 pub fn what_windows_promise()
     ensures { (p : Plan) (c : ℕ → ℕ) → StayInWindows p c → (h : History) → IsLegal p h

@@ -13,7 +13,6 @@ use cs_theorem::CheckFault;
 use cs_windows::Window;
 use std::alloc::{AllocError, Global};
 
-/// Whether the leaves of a stretch in use list these windows, if it has any.
 pub(crate) fn holds(used: &UsedStretch<'_>, windows: &[Window]) -> bool
     requires { AreInside (seen used.now).tree }
     ensures { IsTrue result → ListsAll (seen used.now).tree windows.now }
@@ -24,7 +23,6 @@ pub(crate) fn holds(used: &UsedStretch<'_>, windows: &[Window]) -> bool
     }
 }
 
-/// The first minute of the last day, and the first window there, that isn't listed.
 pub(crate) fn first_fault(
     alloc: Global,
     case: &Case<'_>,

@@ -1,4 +1,4 @@
-//! The checker: decides whether a certificate proves that a plan is safe.
+//! Decides whether a certificate proves that a plan is safe.
 #![tactic(auto)]
 
 mod capacity;

@@ -12,7 +12,7 @@ use cs_classes::UsedStretch;
 use cs_theorem::CheckFault;
 use std::alloc::{AllocError, Global};
 
-/// The rules that are looked at stretch by stretch.
+/// The rules that are checked stretch by stretch.
 #[derive(Clone, Copy)]
 pub(crate) enum Rule {
     Steps,
@@ -22,7 +22,6 @@ pub(crate) enum Rule {
     Skips,
 }
 
-/// The first fault of a stretch by one rule.
 fn fault_by(
     alloc: Global,
     case: &Case<'_>,
@@ -44,7 +43,6 @@ fn fault_by(
     }
 }
 
-/// The first fault by one rule, in the order of the stretches.
 fn first_by(
     alloc: Global,
     case: &Case<'_>,
@@ -65,7 +63,6 @@ fn first_by(
     Ok(None)
 }
 
-/// The first fault by the rules of windows and locks: leaves, collisions, capacity, skip jobs.
 #[tactic(auto, unfolding(crate::specs::Stretches::windows_fault))]
 fn first_by_windows(
     alloc: Global,
@@ -90,7 +87,6 @@ fn first_by_windows(
     first_by(alloc, case, Rule::Skips, stretches)
 }
 
-/// The first fault by the rules after the first two, in their order.
 #[tactic(auto, unfolding(crate::specs::Stretches::later_fault))]
 pub(crate) fn later_fault(
     alloc: Global,

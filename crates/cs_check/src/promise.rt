@@ -1,4 +1,3 @@
-//! What is known of a checked plan.
 ghost use Rattle.std.specs.Prelude.{◌≡◌};
 ghost use Rattle.cs_claims.specs.Certificate.{content};
 ghost use Rattle.cs_check.specs.Case.{IsAcceptedWith, reach_for};
@@ -25,7 +24,7 @@ impl Checked {
         &self.certificate
     }
 
-    /// Lemma. An accepted plan is safe, whatever happens.
+    /// Lemma. An accepted plan is safe.
     pub fn is_safe(&self)
         ensures rules { IsAcceptedWith (plan_in self.now) (certificate_in self.now) }
         ensures calm { IsCalmThroughout (as_plan (plan_in self.now))
@@ -33,7 +32,7 @@ impl Checked {
         ensures windows { StayInWindows (as_plan (plan_in self.now))
             (reach_for (plan_in self.now) (certificate_in self.now)) }
         ensures headline { IsHeadline (as_plan (plan_in self.now)) }
-        // At most as many runs as the capacity run at once, since each weighs at least 1.
+        // There are at most as many runs at once as the capacity, since each weighs at least 1.
         ensures few { AreFew (as_plan (plan_in self.now)) }
     {
         look_at(&self.plan, &self.certificate);

@@ -15,7 +15,6 @@ use cs_claims::{Class, reach_of};
 use cs_classes::{UsedStretch, clears, waits};
 use cs_theorem::CheckFault;
 
-/// Whether a cron job, if it waits, has a reach.
 fn has_reach(case: &Case<'_>, number: usize) -> bool
     requires { number < crons case.now.plan.now }
     ensures { IsTrue result → waits (plan_of case.now) number ≡ true
@@ -27,7 +26,6 @@ fn has_reach(case: &Case<'_>, number: usize) -> bool
     case.reach_of(number).is_some()
 }
 
-/// Whether each job that waits has a reach.
 pub(crate) fn have_reaches(case: &Case<'_>) -> bool
     ensures { IsTrue result → HaveReaches (plan_of case.now) (claim_of case.now) }
 {
@@ -39,7 +37,6 @@ pub(crate) fn have_reaches(case: &Case<'_>) -> bool
     true
 }
 
-/// Whether the job, if it waits and has a reach, has had its lock within the reach on that day.
 fn settles(basis: &Basis<'_>, class: &Class, number: usize) -> bool
     requires basis { IsBasis basis.now }
     requires cron { number < crons basis.now.plan.now }
@@ -55,7 +52,6 @@ fn settles(basis: &Basis<'_>, class: &Class, number: usize) -> bool
     }
 }
 
-/// Like `settles`, for all jobs.
 pub(crate) fn all_settle(basis: &Basis<'_>, class: &Class) -> bool
     requires { IsBasis basis.now }
     ensures { IsTrue result → Settle basis.now.plan.now (said basis.now.claim.now) class.now }
@@ -68,8 +64,6 @@ pub(crate) fn all_settle(basis: &Basis<'_>, class: &Class) -> bool
     true
 }
 
-/// Whether the bound of the job's group is zero within this reach after each of its due minutes on
-/// the first day.
 fn clears_on<'a>(
     case: &Case<'a>,
     used: &UsedStretch<'_>,
@@ -88,7 +82,6 @@ fn clears_on<'a>(
     clears(case.plan, number, reach, classes, case.none)
 }
 
-/// Whether the job's reach, if it waits and has one, is far enough.
 fn reach_holds<'a>(
     case: &Case<'a>,
     used: &UsedStretch<'_>,
@@ -111,8 +104,7 @@ fn reach_holds<'a>(
     }
 }
 
-/// Whether on a stretch in use each reach of a job that waits is long enough. That is not worked
-/// out if all have had their locks on the first day.
+/// Reaches are looked at only if not all jobs that wait have had their locks on the first day.
 pub(crate) fn holds(case: &Case<'_>, used: &UsedStretch<'_>) -> bool
     requires case { IsCase case.now }
     requires in_use { IsInUse (said case.now.claim.now) case.now.days used.now }
@@ -132,8 +124,7 @@ pub(crate) fn holds(case: &Case<'_>, used: &UsedStretch<'_>) -> bool
     true
 }
 
-/// Whether this reach of a job that waits is long enough on a stretch in use. That is not worked
-/// out if all that wait have had their locks on the first day.
+/// The reach is looked at only if not all jobs that wait have had their locks on the first day.
 fn is_far_on(case: &Case<'_>, used: &UsedStretch<'_>, number: usize, reach: u16) -> bool
     requires case { IsCase case.now }
     requires in_use { IsInUse (said case.now.claim.now) case.now.days used.now }
@@ -151,7 +142,6 @@ fn is_far_on(case: &Case<'_>, used: &UsedStretch<'_>, number: usize, reach: u16)
     clears_on(case, used, &classes[..days], number, reach)
 }
 
-/// Whether this reach of a job that waits is long enough on each of these stretches.
 fn is_far_on_all(case: &Case<'_>, stretches: &[UsedStretch<'_>], number: usize, reach: u16) -> bool
     requires case { IsCase case.now }
     requires in_use { All (IsInUse (said case.now.claim.now) case.now.days) stretches.now }
@@ -169,7 +159,6 @@ fn is_far_on_all(case: &Case<'_>, stretches: &[UsedStretch<'_>], number: usize, 
     true
 }
 
-/// Whether a job, if it waits, has a reach that is long enough.
 fn is_far(case: &Case<'_>, stretches: &[UsedStretch<'_>], number: usize) -> bool
     requires case { IsCase case.now }
     requires in_use { All (IsInUse (said case.now.claim.now) case.now.days) stretches.now }
@@ -186,7 +175,6 @@ fn is_far(case: &Case<'_>, stretches: &[UsedStretch<'_>], number: usize) -> bool
     }
 }
 
-/// The first job that waits and has no reach, or one that is too short.
 pub(crate) fn first_fault(case: &Case<'_>, stretches: &[UsedStretch<'_>]) -> Option<CheckFault>
     requires case { IsCase case.now }
     requires in_use { All (IsInUse (said case.now.claim.now) case.now.days) stretches.now }

@@ -10,7 +10,6 @@ use cs_classes::UsedStretch;
 use cs_theorem::CheckFault;
 use std::alloc::{AllocError, Global};
 
-/// The first due minute of a skip job on the last day at which another window holds its lock.
 pub(crate) fn first_fault(
     alloc: Global,
     case: &Case<'_>,

@@ -10,7 +10,6 @@ use cs_classes::{UsedStretch, first_rise, is_steady_over};
 use cs_theorem::CheckFault;
 use std::alloc::{AllocError, Global};
 
-/// Whether the bounds of the groups follow the arrivals, from the last day but one to the last.
 pub(crate) fn holds(case: &Case<'_>, used: &UsedStretch<'_>) -> bool
     requires case { IsCase case.now }
     requires in_use { IsInUse (said case.now.claim.now) case.now.days used.now }
@@ -23,8 +22,6 @@ pub(crate) fn holds(case: &Case<'_>, used: &UsedStretch<'_>) -> bool
     is_steady_over(eve.groups.as_slice(), last.groups.as_slice())
 }
 
-/// The first minute of the last day but one, and the first group there, whose bound doesn't follow
-/// the arrivals.
 pub(crate) fn first_fault(
     alloc: Global,
     case: &Case<'_>,

@@ -11,7 +11,6 @@ use cs_classes::{UsedStretch, first_missing, used_stretches};
 use cs_theorem::CheckFault;
 use std::alloc::Global;
 
-/// The stretches in use, or the fault of the first successive kinds whose stretch is missing.
 pub(crate) fn in_use<'a>(alloc: Global, case: &Case<'a>) -> Result<Vec<UsedStretch<'a>>, CheckError>
     requires { IsCase case.now }
     ensures ok { IfOk result (λ stretches. AreStretches case.now stretches.items) }

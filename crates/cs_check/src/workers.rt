@@ -1,4 +1,3 @@
-//! Who goes through classes and stretches: one thread, or several.
 ghost use Rattle.std.specs.Prelude.{◌<◌, All, IfOk, IsTrue, length};
 ghost use Rattle.cs_classes.specs.Said.{said};
 ghost use Rattle.cs_classes.specs.Used.{IsInUse};
@@ -14,9 +13,9 @@ use rayon::prelude::*;
 use std::alloc::{AllocError, Global};
 use std::thread::Threads;
 
-/// Goes through classes and stretches.
+/// Goes through classes and stretches, in one thread or in several.
 pub(crate) trait CheckWorkers: Workers {
-    /// The day of each class, by the number of the class. The only error is out of memory.
+    /// The day of each class, by the number of the class.
     fn class_days(&self, alloc: Global, basis: &Basis<'_>) -> Result<Vec<ClassDay>, AllocError>
         requires ready { Self.can_work self.now }
         requires basis { IsBasis basis.now }
@@ -77,7 +76,7 @@ impl<R: Threads + Sync> CheckWorkers for SeveralThreads<'_, R> {
             .collect::<Result<Vec<ClassDay>, AllocError>>(self.0, alloc)?
     }
 
-    // A stretch for which memory runs out is not good.
+    // A stretch isn't good if memory runs out for it.
     fn are_good(
         &self,
         alloc: Global,

@@ -26,7 +26,6 @@ same_date d e h =
 pub no_day : (text : List ℕ) (d : CivilDate) (n : ℕ) → text ≡ date_bytes d → ((k : ℕ) → 1 ≤ k → date_of k ≡ d → ⊥) → 1 ≤ n → text ≡ day_text n → ⊥
 no_day text d n e none low same = none n low (sym (same_date d (date_of n) (sym e ∙ same)))
 
--- a text of a date and a minute is of one date
 same_start : (d e : CivilDate) (m k : ℕ) → minute_bytes d m ≡ minute_bytes e k → date_bytes d ≡ date_bytes e
 same_start d e m k h = cc
 
@@ -34,24 +33,20 @@ pub no_minute : (d : CivilDate) (m t : ℕ) → ((k : ℕ) → 1 ≤ k → date_
 no_minute d m t none low same =
     none (t / 1_440) (omega arith) (sym (same_date d (date_of (t / 1_440)) (same_start d (date_of (t / 1_440)) m (t % 1_440) same)))
 
--- the minute of a day has the text of both
 pub the_minute : (d : CivilDate) (m n : ℕ) → date_of n ≡ d → m ≤ 1_439 → minute_bytes d m ≡ minute_text (n * 1_440 + m)
 the_minute d m n is le =
     let day : (n * 1_440 + m) / 1_440 ≡ n = omega arith in
     let clock : (n * 1_440 + m) % 1_440 ≡ m = omega arith in
     rw (day, clock, is)
 
--- two days have two dates
 same_number : (n m : ℕ) → date_of n ≡ date_of m → n ≡ m
 same_number n m e =
     let p : pos n ≡ pos m = sym (has_number n).number ∙ ap (λ (d : CivilDate). days_from_civil (pos d.year) d.month d.dom) e ∙ (has_number m).number in
     cc
 
--- a text names one day
 pub one_day : (text : List ℕ) (n m : ℕ) → text ≡ day_text m → text ≡ day_text n → n ≡ m
 one_day text n m e f = same_number n m (same_date (date_of n) (date_of m) (sym f ∙ e))
 
--- a text names one minute of a day
 same_clock : (d e : CivilDate) (a b : ℕ) → minute_bytes d a ≡ minute_bytes e b → a ≡ b
 same_clock d e a b h =
     let h1 : 48 + a / 60 / 10 ≡ 48 + b / 60 / 10 = cc in
@@ -60,7 +55,6 @@ same_clock d e a b h =
     let m2 : 48 + a % 60 % 10 ≡ 48 + b % 60 % 10 = cc in
     omega arith
 
--- a text names one minute
 pub one_minute : (text : List ℕ) (s t : ℕ) → text ≡ minute_text t → text ≡ minute_text s → s ≡ t
 one_minute text s t e f =
     let same = sym f ∙ e in

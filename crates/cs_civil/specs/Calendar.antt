@@ -2,7 +2,6 @@
 use Rattle.std.specs.Prelude.{ℕ, zero, suc, ◌+◌, ◌-◌, ◌%◌, ◌≡◌, ◌<◌, ◌≤◌, ◌==◌, ◌&&◌, nat_lt, if◌then◌else◌, List, [], ◌∷◌, map, pos}
 use Rattle.jiff_core.specs.Calendar.{days_in_month}
 
--- a date of the Gregorian calendar
 pub record CivilDate : Type 0 where
   pub year : ℕ
   pub month : ℕ
@@ -16,12 +15,12 @@ next_date d =
     else (if nat_lt d.month 12 then record { year = d.year; month = d.month + 1; dom = 1 }
     else record { year = d.year + 1; month = 1; dom = 1 })
 
--- the date of day number n
+-- day 0 is 1 January 1970
 unfoldable pub date_of : ℕ → CivilDate
 date_of zero = record { year = 1970; month = 1; dom = 1 }
 date_of (suc n) = next_date (date_of n)
 
--- the weekday of day number n: Sunday is 0
+-- Sunday is 0; day 0 is a Thursday
 abbrev pub weekday_of : ℕ → ℕ
 weekday_of n = (n + 4) % 7
 
@@ -31,7 +30,6 @@ pub record Kind : Type 0 where
   pub dom : ℕ
   pub dow : ℕ
 
--- the kind of day number n
 abbrev pub kind : ℕ → Kind
 kind n = record { month = (date_of n).month; dom = (date_of n).dom; dow = weekday_of n }
 
@@ -39,11 +37,10 @@ kind n = record { month = (date_of n).month; dom = (date_of n).dom; dow = weekda
 unfoldable pub four_days : ℕ → List Kind
 four_days n = map kind ((n - 3) ∷ (n - 2) ∷ (n - 1) ∷ n ∷ [])
 
--- the days of a month in a leap year
 abbrev pub longest : ℕ → ℕ
 longest m = days_in_month (pos 2000) m
 
--- the 2,562 triples that are the kind of some day
+-- the 2,562 kinds of days
 pub record IsKind (k : Kind) : Type 0 where
   pub month : (1 ≤ k.month) × (k.month ≤ 12)
   pub dom : (1 ≤ k.dom) × (k.dom ≤ longest k.month)
@@ -55,13 +52,13 @@ days_after m d =
     if (m == 2) && (d == 28) then (2, 29) ∷ (3, 1) ∷ []
     else (if nat_lt d (longest m) then (m, d + 1) ∷ [] else (m % 12 + 1, 1) ∷ [])
 
--- the kinds that can follow one, whose weekday is the next
+-- the kinds that can follow one: the next weekday, and a day of the year that can follow
 abbrev pub kinds_after : Kind → List Kind
 kinds_after k = map (λ (p : ℕ × ℕ). record { month = p.0; dom = p.1; dow = (k.dow + 1) % 7 })
     (days_after k.month k.dom)
 
--- the second kind follows the first within so many days: one of the days 1 to n, where 1 is
--- 1970-01-02, has the first kind, and the next day the second
+-- the second kind follows the first within n days: one of the days 1 to n, where day 1 is
+-- 1970-01-02, has the first kind, and the next day has the second
 abbrev pub ComesWithin : ℕ → Kind → Kind → Type 0
 ComesWithin n before after =
     (eve : ℕ) × (1 ≤ eve) × (eve ≤ n) × (kind eve ≡ before) × (kind (eve + 1) ≡ after)

@@ -1,7 +1,6 @@
--- The catch-up hours.
+-- The catch-up hours: minutes of a day from one up to, and without, another.
 use Rattle.std.specs.Prelude.{ℕ, ◌<◌, ◌≤◌}
 
--- the minutes of a day from one up to, and without, another
 pub record CatchUpHours : Type 0 where
   pub from : ℕ
   pub to : ℕ

@@ -6,9 +6,8 @@ use std::marker::Model;
 /// 9999-12-31.
 const LAST_DAY: u64 = 2_932_896;
 
-/// A day of the Gregorian calendar.
-///
-/// Counted in days since 1970-01-01: from 0 to 2,932,896, which is 9999-12-31.
+/// A day of the Gregorian calendar, in days since 1970-01-01: from 0 to 2,932,896, which is
+/// 9999-12-31.
 #[derive(Clone, Copy, PartialEq, Eq, PartialOrd, Ord, Hash)]
 pub struct Day {
     days: u64,
@@ -28,7 +27,7 @@ impl Model for Day {
 }
 
 impl Day {
-    /// Returns the day that many days after 1970-01-01, or `None` after 9999-12-31.
+    /// Returns the day so many days after 1970-01-01; `None` after 9999-12-31.
     pub fn new(number: u64) -> Option<Day>
         ensures in_range { IsSome result ↔ (number ≤ last_day) }
         ensures value { IfSome result (λ day. day ≡ number) }

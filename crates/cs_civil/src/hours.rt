@@ -5,7 +5,7 @@ use crate::minute::MINUTES_OF_DAY;
 use std::marker::Model;
 
 /// The catch-up hours: the minutes of a day, from one up to but without another, in which an
-/// anacron job may start (`START_HOURS_RANGE` of `anacrontab(5)` in minutes).
+/// anacron job may start (`START_HOURS_RANGE` of `anacrontab(5)`, in minutes).
 #[derive(Clone, Copy, PartialEq, Eq)]
 pub struct Hours {
     first: u16,
@@ -25,7 +25,7 @@ impl Model for Hours {
 }
 
 impl Hours {
-    /// Returns the hours between these minutes, if they are some of a day.
+    /// Returns the hours between these minutes; `None` if they aren't some minutes of one day.
     pub fn new(from: u64, to: u64) -> Option<Hours>
         ensures possible { IsSome result ↔ ArePossible (record { from = from; to = to }) }
         ensures value { IfSome result (λ hours. hours ≡ record { from = from; to = to }) }
@@ -39,7 +39,7 @@ impl Hours {
         })
     }
 
-    /// Returns the first minute of the day, from 0, at which a job may start.
+    /// Returns the first minute of the day, from 0, in which a job may start.
     pub fn from(self) -> u16
         ensures value { result ≡ self.from }
         ensures in_range { ArePossible self }
@@ -47,7 +47,7 @@ impl Hours {
         self.first
     }
 
-    /// Returns the end: the minute of the day, up to 1,440, from which on no job may start.
+    /// Returns the end, up to 1,440: the minute of the day from which on no job may start.
     pub fn to(self) -> u16
         ensures value { result ≡ self.to }
         ensures in_range { ArePossible self }

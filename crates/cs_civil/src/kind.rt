@@ -12,9 +12,8 @@ use std::marker::Model;
 /// A leap year: its days are those that a kind can have.
 const LEAP_YEAR: i16 = 2000;
 
-/// What a schedule sees of a day (crontab(5)): its month, its day of the month and its weekday.
-///
-/// There are 2,562 of them: each of the 366 days of a leap year on each of seven weekdays.
+/// What a schedule sees of a day (crontab(5)): month, day of the month and weekday. There are 2,562
+/// of them: each of the 366 days of a leap year on each of seven weekdays.
 #[derive(Clone, Copy, PartialEq, Eq, PartialOrd, Ord, Hash)]
 pub struct DayKind {
     month_number: u8,
@@ -37,7 +36,7 @@ impl Model for DayKind {
 
 impl DayKind {
     /// Returns the kind with this month (1 to 12), day of the month (1 to 31) and weekday (0 to 6,
-    /// Sunday is 0), or `None` if no day has it.
+    /// Sunday is 0); `None` if no day has it.
     pub fn new(month: u8, dom: u8, dow: u8) -> Option<DayKind>
         ensures possible { IsSome result ↔ IsKind (record { month = month; dom = dom; dow = dow }) }
         ensures value { IfSome result (λ k. k ≡ record { month = month; dom = dom; dow = dow }) }
@@ -79,7 +78,7 @@ impl DayKind {
         self.weekday
     }
 
-    /// The next kind in the order of [`all_kinds`](crate::all_kinds), if this isn't the last.
+    /// The next kind in the order of [`all_kinds`](crate::all_kinds); `None` after the last.
     #[tactic(auto, using(crate::proofs::Places::next_weekday, crate::proofs::Places::next_day, crate::proofs::Places::next_first, crate::proofs::Places::no_next))]
     pub(crate) fn following(self) -> Option<DayKind>
         ensures { kinds_from (Some self) ≡ self ∷ kinds_from result }
@@ -104,8 +103,7 @@ impl DayKind {
 }
 
 /// Returns the kinds that the next day can have: one, or after 28 February two, 29 February first.
-///
-/// Each does occur: two successive days of the first 28 years have these kinds.
+/// Each does occur within the first 28 years.
 #[tactic(auto, using(crate::proofs::Cycle::next_come))]
 pub fn next_kinds(kind: DayKind) -> ArrayVec<DayKind, 2>
     ensures value { result.items ≡ kinds_after kind }
@@ -151,7 +149,6 @@ pub fn kind_number(kind: DayKind) -> u16
     7 * (day - 1) + u16::from(kind.weekday)
 }
 
-/// The days of a month in a leap year.
 fn longest_month(month: u8) -> u8
     ensures { result ≡ longest month }
 {
@@ -171,7 +168,7 @@ impl Default for DayKind {
     }
 }
 
-/// Returns the kind of a day: the month, day of the month and weekday of its Gregorian date.
+/// Returns the kind of a day.
 #[tactic(auto, using(crate::proofs::Dates::kind_is, crate::proofs::Following::kind_followed))]
 pub fn kind_of(day: Day) -> DayKind
     ensures value { result ≡ kind day }
@@ -188,8 +185,8 @@ pub fn kind_of(day: Day) -> DayKind
     }
 }
 
-/// Returns the kinds of a day and of the three days before it, eldest first. No day comes before
-/// 1970-01-01, which stands for those that would.
+/// Returns the kinds of a day and of the three days before it, eldest first. 1970-01-01 stands for
+/// days before it.
 #[tactic(auto, unfolding(crate::specs::Calendar::four_days))]
 pub fn four_days(day: Day) -> [DayKind; 4]
     ensures { result ≡ four_days day }

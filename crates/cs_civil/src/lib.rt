@@ -1,4 +1,4 @@
-//! Civil minutes, days and kinds of days, and the sequence type that the other crates use.
+//! Counts civil minutes, days and kinds of days, and gives the sequence type of the other crates.
 #![tactic(auto)]
 
 mod date;

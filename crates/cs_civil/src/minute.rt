@@ -13,10 +13,8 @@ pub const FIRST_MINUTE: u64 = 1_440;
 /// The last civil minute, 9999-12-31 23:59.
 pub const LAST_MINUTE: u64 = 4_223_371_679;
 
-/// A minute on the clock of the crontab's machine, at one offset from UTC all year (this profile).
-///
-/// Counted in minutes since 1970-01-01 00:00 at the offset: from 1,440, which is 1970-01-02 00:00,
-/// to 4,223,371,679, which is 9999-12-31 23:59.
+/// A minute on the clock of the crontab's machine, at one offset from UTC all year (this profile):
+/// minutes since 1970-01-01 00:00 at the offset, from [`FIRST_MINUTE`] to [`LAST_MINUTE`].
 #[derive(Clone, Copy, PartialEq, Eq, PartialOrd, Ord, Hash)]
 pub struct Minute {
     minutes: u64,
@@ -36,8 +34,8 @@ impl Model for Minute {
 }
 
 impl Minute {
-    /// Returns the minute that many minutes after 1970-01-01 00:00 at the offset, or `None` before
-    /// 1970-01-02 00:00 and after 9999-12-31 23:59.
+    /// Returns the minute so many minutes after 1970-01-01 00:00 at the offset; `None` if it is out
+    /// of range.
     pub fn new(number: u64) -> Option<Minute>
         ensures in_range { IsSome result ↔ ((first_minute ≤ number) × (number ≤ last_minute)) }
         ensures value { IfSome result (λ minute. minute ≡ number) }

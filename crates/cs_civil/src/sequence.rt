@@ -47,7 +47,7 @@ impl<T> Sequence<T> {
         items
     }
 
-    /// Copies the items. The only error is out of memory.
+    /// Copies the items.
     pub fn from_slice(alloc: Global, items: &[T]) -> Result<Sequence<T>, AllocError>
     where
         T: Copy,
@@ -65,7 +65,7 @@ impl<T> Sequence<T> {
         self.items.len()
     }
 
-    /// Checks whether there are no items.
+    /// Whether there are no items.
     pub fn is_empty(&self) -> bool
         ensures { IsTrue result ↔ (self.now ≡ []) }
     {
@@ -81,7 +81,7 @@ impl<T> Sequence<T> {
 }
 
 impl<T: Drop> Sequence<T> {
-    /// Adds an item at the end. The only error is out of memory, which drops the item.
+    /// Adds an item at the end. If memory runs out, the item is dropped.
     pub fn push(&mut self, item: T) -> Result<(), AllocError>
         ensures ok { OnOk result (self.new ≡ self.old ++ item ∷ []) }
         ensures err { OnErr result (self.new ≡ self.old) }

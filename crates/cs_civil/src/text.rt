@@ -10,11 +10,10 @@ use crate::minute::MINUTES_OF_DAY;
 use crate::{CivilFault, Day, Minute};
 use std::alloc::{AllocError, Global};
 
-/// Returns the civil minute of a moment, in seconds since 1970-01-01 00:00 UTC.
-///
-/// The offset is the minutes by which the clock is ahead of UTC. Seconds are rounded down, before
-/// 1970 too. [`OutOfRange`](CivilFault::OutOfRange) before 1970-01-02 00:00 and after 9999-12-31
-/// 23:59 at the offset (this profile).
+/// Returns the civil minute of a moment in seconds since 1970-01-01 00:00 UTC, rounded down;
+/// `offset` is the minutes by which the clock is ahead of UTC.
+/// [`OutOfRange`](CivilFault::OutOfRange) before [`FIRST_MINUTE`](crate::FIRST_MINUTE) and after
+/// [`LAST_MINUTE`](crate::LAST_MINUTE) (this profile).
 pub fn minute_at(unix_seconds: i64, offset: i16) -> Result<Minute, CivilFault>
     ensures in_range { IsOk result
         ↔ IsBetween (pos first_minute) (pos last_minute)
@@ -40,14 +39,14 @@ pub fn date_text(minute: Minute) -> [u8; 16]
     ]
 }
 
-/// Formats a day as `YYYY-MM-DD`, its Gregorian date.
+/// Formats a day as `YYYY-MM-DD`.
 pub fn day_text(day: Day) -> [u8; 10]
     ensures { result ≡ day_text day }
 {
     Gregorian::of_day(day).bytes()
 }
 
-/// Adds a number in decimal digits. The only error is out of memory.
+/// Adds a number in decimal digits.
 pub fn push_number(alloc: Global, text: &mut Vec<u8>, number: u128) -> Result<(), AllocError>
     ensures { OnOk result (text.new.items ≡ text.old.items ++ decimal number) }
 {
@@ -56,8 +55,9 @@ pub fn push_number(alloc: Global, text: &mut Vec<u8>, number: u128) -> Result<()
 
 /// Reads a day, `YYYY-MM-DD` (this profile).
 ///
-/// [`NotADate`](CivilFault::NotADate) for any other text and for a date not in the Gregorian
-/// calendar of the years 0000 to 9999; [`OutOfRange`](CivilFault::OutOfRange) before 1970-01-02.
+/// [`NotADate`](CivilFault::NotADate) for any other text, and for a date that the Gregorian
+/// calendar of the years 0000 to 9999 doesn't have; [`OutOfRange`](CivilFault::OutOfRange) before
+/// 1970-01-02.
 #[tactic(auto, using(crate::proofs::Texts::no_day, crate::proofs::Texts::one_day))]
 pub fn read_day(text: &[u8]) -> Result<Day, CivilFault>
     ensures ok { IfOk result (λ day. (1 ≤ day) × (day ≤ last_day) × (text.now ≡ day_text day)) }
@@ -76,9 +76,8 @@ pub fn read_day(text: &[u8]) -> Result<Day, CivilFault>
     }
 }
 
-/// Reads a minute, `YYYY-MM-DD HH:MM` from 00:00 to 23:59 (this profile).
-///
-/// [`NotADate`](CivilFault::NotADate) and [`OutOfRange`](CivilFault::OutOfRange) like [`read_day`].
+/// Reads a minute, `YYYY-MM-DD HH:MM` from 00:00 to 23:59 (this profile). The faults are those of
+/// [`read_day`].
 #[tactic(auto, using(crate::proofs::Texts::one_minute))]
 pub fn read_minute(text: &[u8]) -> Result<Minute, CivilFault>
     ensures ok { IfOk result
@@ -100,7 +99,7 @@ pub fn read_minute(text: &[u8]) -> Result<Minute, CivilFault>
     }
 }
 
-/// The minute at that time of a date, if it is not before 1970-01-02.
+/// `None` before 1970-01-02.
 #[tactic(auto, using(crate::proofs::Texts::no_minute, crate::proofs::Texts::the_minute))]
 fn later_minute(date: Gregorian, clock: u16) -> Option<Minute>
     requires { clock ≤ 1_439 }
@@ -113,7 +112,6 @@ fn later_minute(date: Gregorian, clock: u16) -> Option<Minute>
     Some(Minute::new(day.number() * u64::from(MINUTES_OF_DAY) + u64::from(clock)).unwrap())
 }
 
-/// The date and the minute of the day that the text `YYYY-MM-DD HH:MM` writes.
 fn read_date_and_clock(text: &[u8]) -> Option<(Gregorian, u16)>
     ensures value { IfSome result
         (λ p. IsGregorian p.0 × (p.1 ≤ 1_439) × (text.now ≡ minute_bytes p.0 p.1)) }
@@ -134,7 +132,7 @@ fn read_date_and_clock(text: &[u8]) -> Option<(Gregorian, u16)>
     ))
 }
 
-/// The whole minutes since 1970-01-01 00:00 at the offset, rounded down.
+/// Minutes since 1970-01-01 00:00 at the offset, rounded down.
 fn minutes_at(unix_seconds: i64, offset: i16) -> i64
     ensures { result ≡ int_div_euclid (unix_seconds +ℤ pos 60 *ℤ offset) (pos 60) }
 {

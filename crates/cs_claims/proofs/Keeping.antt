@@ -14,7 +14,6 @@ use Rattle.cs_claims.specs.Kept.{IsSound, Keeps}
 use Rattle.cs_claims.proofs.Splits.{inside_so}
 use Rattle.cs_claims.proofs.Both.{and_both}
 
--- there is no fault: each rule holds
 pub record Rules (c : Content) : Type 0 where
   pub version : is_version c.version ≡ true
   pub shapes : shapes_fit c ≡ true
@@ -56,7 +55,6 @@ few_classes v = step (v == 3)
     step true = omega arith
     step false = omega arith
 
--- how the parts of the lists' rule are nested
 pub list_parts : (c : Content) → lists_fit c ≡ true → (reach_fits (most_reach c.version) c.reach ≡ true) × (list_all class_fits c.classes ≡ true) × (list_all (has_entries (most_days c.version)) c.stretches ≡ true) × (carries_fit c ≡ true)
 list_parts c h =
     let all = and_both (reach_fits (most_reach c.version) c.reach && list_all class_fits c.classes && list_all (has_entries (most_days c.version)) c.stretches) (carries_fit c) h in
@@ -64,7 +62,6 @@ list_parts c h =
     let inner = and_both (reach_fits (most_reach c.version) c.reach) (list_all class_fits c.classes) lists.0 in
     (inner.0, inner.1, lists.1, all.1)
 
--- the class of a kind is that of a leaf
 class_within : (t : day.Tree) (k : Kind) → day.class_in t k ≤ day.greatest_class t
 class_within (day.leaf class) k = omega arith
 class_within (day.split part values inside outside) k =

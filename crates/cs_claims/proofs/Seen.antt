@@ -1,4 +1,3 @@
--- Tests on what is seen of a list's items.
 use Rattle.std.proofs.Common.{◌≡◌, Bool, ◌&&◌, List, [], ◌∷◌, map, refl, ap}
 use Rattle.std.specs.List.{list_all}
 use Rattle.cs_daytree.specs.Rising.{each_next}

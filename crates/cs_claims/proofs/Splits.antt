@@ -19,6 +19,5 @@ so_inside (leaf entries) lo hi h = refl
 so_inside (split at before after) lo hi h =
     both_and _ _ (both_and _ _ (both_and _ _ (lt-ltb lo at h.0) (lt-ltb at hi h.1)) (so_inside before lo at h.2)) (so_inside after at hi h.3)
 
--- the answer that says whether the fact holds is the test's
 pub same_answer : (r : Bool) (t : Tree) (lo hi : ℕ) → (IsTrue r ↔ SplitsInside t lo hi) → r ≡ splits_inside t lo hi
 same_answer r t lo hi h = by_both r (splits_inside t lo hi) (λ e. so_inside t lo hi (h.0 e)) (λ e. h.1 (inside_so t lo hi e))

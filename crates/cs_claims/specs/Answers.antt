@@ -1,4 +1,3 @@
--- What a call answers, whether or not it may run out of memory.
 use Rattle.std.specs.Prelude.{◌≡◌, Result, Ok, Err, ⊤}
 use Rattle.cs_claims.specs.declared.fault.CertFault.{CertFault}
 use Rattle.cs_claims.specs.declared.fault.CertError.{CertError}
@@ -14,7 +13,7 @@ abbrev pub Fails : {Y : Type 0} → CertError → Result Y CertFault → Type 0
 Fails OutOfMemory answer = ⊤
 Fails (Fault fault) answer = answer ≡ Err fault
 
--- what was returned, as it is seen, is the answer, unless memory ran out
+-- the same, unless memory ran out
 abbrev pub Gives : {X Y : Type 0} → (X → Y) → Result X CertError → Result Y CertFault → Type 0
 Gives seen (Ok x) answer = answer ≡ Ok (seen x)
 Gives seen (Err e) answer = Fails e answer

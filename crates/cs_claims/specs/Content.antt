@@ -1,4 +1,3 @@
--- What a certificate says.
 use Rattle.std.specs.Prelude.{ℕ, List, map}
 use Rattle.cs_daytree.specs.Tree as day
 use Rattle.cs_windows.specs.Tree as minute

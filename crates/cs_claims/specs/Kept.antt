@@ -7,8 +7,8 @@ use Rattle.cs_windows.specs.Tree.{SplitsInside}
 use Rattle.cs_claims.specs.Content.{Content, StretchTree}
 use Rattle.cs_claims.specs.Rules.{class_fits, entries_fit, leaves_pass, most_classes, most_days, most_reach, reach_fits}
 
--- the stretch has two days or more, as the version allows, of classes that there are, and its
--- tree's splits are inside their ranges
+-- the stretch has two days or more, as the version allows, of classes that exist; its tree's splits
+-- are inside their ranges, and its entries fit
 pub record IsSound (version count : ℕ) (s : StretchTree) : Type 0 where
   pub days : (2 ≤ length s.of) × (length s.of ≤ most_days version)
   pub classes : All (λ class. class < count) s.of

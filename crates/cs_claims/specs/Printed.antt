@@ -3,7 +3,6 @@ use Rattle.std.specs.Prelude.{ℕ, List, codes}
 use Rattle.cs_claims.specs.declared.fault.CertFault.{CertFault}
 use Rattle.cs_claims.specs.declared.fault.CertFault.TheVariants as faults
 
--- number and name
 abbrev pub fault_text : CertFault → List ℕ
 fault_text faults.TooLong = codes "1 TooLong"
 fault_text faults.NotJson = codes "2 NotJson"

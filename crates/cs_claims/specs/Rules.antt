@@ -22,7 +22,8 @@ use Rattle.cs_claims.specs.Content.{Content, StretchTree}
 abbrev pub is_version : ℕ → Bool
 is_version version = version == 1 || (version == 2 || version == 3)
 
--- the most days of a stretch, at least two, so that version 3 has none: windows begin fewer back
+-- the most days of a stretch; it has at least two, so that version 3 has no stretch; windows begin
+-- fewer days back
 abbrev pub most_days : ℕ → ℕ
 most_days version = if version == 1 then 2 else (if version == 2 then 4 else 0)
 
@@ -52,7 +53,7 @@ abbrev pub leaves_pass : (List Entry → Bool) → Tree → Bool
 leaves_pass test (leaf entries) = test entries
 leaves_pass test (split at before after) = leaves_pass test before && leaves_pass test after
 
--- a job, a number of days back and a minute of the day
+-- a job, a number of days back and a minute of the day, all in range
 abbrev pub entry_fits : ℕ → Entry → Bool
 entry_fits days e = nat_lt e.job 320 && nat_lt e.day_back days && nat_lt e.from 1_440
 
@@ -64,7 +65,7 @@ is_short entries = nat_le (length entries) 4_096
 
 -- ---- lists
 
--- minutes of the day, rising, one at least, of a job
+-- minutes of the day of a job, rising, at least one
 abbrev pub due_list_fits : DueList → Bool
 due_list_fits d = nat_lt d.job 320 && nat_lt 0 (length d.minutes) && rises d.minutes
     && list_all (λ minute. nat_lt minute 1_440) d.minutes
@@ -97,7 +98,6 @@ class_fits c = due_fits c.due && backlog_fits c.backlog
 abbrev pub is_at_midnight : GroupBacklog → Bool
 is_at_midnight b = list_all (λ p. nat_eq p.minute 0) b.backlog
 
--- a class with only what is left over at midnight
 abbrev pub is_carries : Class → Bool
 is_carries c = nat_eq (length c.due) 0 && list_all is_at_midnight c.backlog
 
@@ -151,7 +151,7 @@ is_split_well s = splits_inside s.tree 0 1_440
 abbrev pub trees_split_well : Content → Bool
 trees_split_well c = splits_fit all_numbers c.kinds && list_all is_split_well c.stretches
 
--- each class that is named is there, and the stretches rise strictly
+-- each class that is named exists, and the stretches rise strictly
 abbrev pub is_of_classes : ℕ → StretchTree → Bool
 is_of_classes count s = list_all (λ class. nat_lt class count) s.of
 
@@ -191,7 +191,7 @@ first_fault [] = None
 first_fault (Some fault ∷ rest) = Some fault
 first_fault (None ∷ rest) = first_fault rest
 
--- by number
+-- in order of their numbers
 abbrev pub faults_of : Content → List (Option CertFault)
 faults_of c =
     unless (is_version c.version) BadVersion
@@ -204,11 +204,9 @@ faults_of c =
     ∷ unless (leaves_short c) LeafTooLong
     ∷ []
 
--- the fault with the smallest number
 unfoldable pub fault_of : Content → Option CertFault
 fault_of c = first_fault (faults_of c)
 
--- the content, if it has no fault
 abbrev pub or_fault : Content → Option CertFault → Result Content CertFault
 or_fault c None = Ok c
 or_fault c (Some fault) = Err fault

@@ -23,7 +23,7 @@ pub struct DueList {
 pub struct GroupBacklog {
     /// The group's number, below 64.
     pub group: u8,
-    /// The bound.
+    /// The bound, in pieces.
     pub backlog: Backlog,
 }
 
@@ -31,8 +31,8 @@ pub struct GroupBacklog {
 /// group.
 ///
 /// A job without a list is never due, and a group without a backlog has the bound 0 everywhere. In
-/// version 3 there are no lists, and each backlog is one piece at minute 0: what is left over of
-/// the days before. Due minutes and later bounds are then worked out from the plan.
+/// version 3 there are no lists, and each backlog is one piece at minute 0: what is left over from
+/// earlier days. Due minutes and later bounds are then worked out from the plan.
 #[derive(Drop)]
 pub struct Class {
     /// The due minutes, jobs rising.
@@ -54,7 +54,6 @@ fn are_of_day(minutes: &[u16]) -> bool
 }
 
 impl DueList {
-    /// Whether the job's number is in range, and its minutes rise within the day, at least one.
     fn fits(&self) -> bool
         ensures { result ≡ due_list_fits self.now }
     {
@@ -84,14 +83,13 @@ fn groups_rise(backlog: &[GroupBacklog]) -> bool
 }
 
 impl GroupBacklog {
-    /// Whether it has no piece after minute 0.
     fn is_at_midnight(&self) -> bool
         ensures { result ≡ is_at_midnight self.now }
     {
         self.backlog.pieces().iter().all(|piece| piece.minute == 0)
     }
 
-    /// Whether the group's number is in range. Its pieces always make a backlog.
+    /// Its pieces always make a backlog.
     #[tactic(auto, using(crate::proofs::Backlogs::backlog_so))]
     fn fits(&self) -> bool
         ensures { result ≡ group_backlog_fits self.now }
@@ -133,7 +131,7 @@ impl Class {
             && list.minutes.as_slice().contains(&minute))
     }
 
-    /// Returns the listed bound of a group at a minute of a day of this class: 0 if it has none. In
+    /// Returns the listed bound of a group at a minute of a day of this class, 0 if it has none. In
     /// version 3 only minute 0 has a meaning.
     pub fn bound(&self, group: u8, minute: u16) -> u32
         ensures { result ≡ bound_in self.now group minute }
@@ -141,14 +139,12 @@ impl Class {
         bound_among(self.backlog.as_slice(), group, minute)
     }
 
-    /// Whether it has only what is left over at midnight, as a class of version 3.
     pub(crate) fn is_carries(&self) -> bool
         ensures { result ≡ is_carries self.now }
     {
         self.due.is_empty() && are_at_midnight(self.backlog.as_slice())
     }
 
-    /// Whether something is left over for each group that is listed.
     pub(crate) fn has_carries(&self) -> bool
         ensures { result ≡ has_carries self.now }
     {
@@ -158,7 +154,6 @@ impl Class {
             .all(|of_group| !of_group.backlog.pieces().is_empty())
     }
 
-    /// Whether jobs and groups rise and are in range, and each due list fits.
     pub(crate) fn fits(&self) -> bool
         ensures { result ≡ class_fits self.now }
     {

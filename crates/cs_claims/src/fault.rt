@@ -24,7 +24,7 @@ pub enum CertFault {
     TooDeep,
     /// A split's values are impossible there, or its minute is outside its range.
     BadSplit,
-    /// A class has no such number, or the stretches don't rise.
+    /// A class that is named doesn't exist, or the stretches don't rise.
     BadClass,
     /// A list doesn't rise, or one of its numbers is out of range.
     BadEntry,

@@ -1,4 +1,4 @@
-//! Certificates: their claims for each kind of day, and their rules for any plan.
+//! Certificates as values: what they claim of each kind of day, and the rules that they keep.
 #![tactic(auto)]
 
 mod certificate;

@@ -1,5 +1,3 @@
-//! Making a certificate, and reading its parts.
-
 ghost use Rattle.std.specs.Prelude.{◌≡◌, ◌<◌, length, map};
 ghost use Rattle.cs_daytree.specs.Tree.{tree_of};
 ghost use Rattle.cs_claims.specs.Answers.{Tells};
@@ -20,10 +18,10 @@ use cs_windows::JobReach;
 impl Certificate {
     /// Makes a certificate, without allocating.
     ///
-    /// Of several faults the one with the smallest number is returned, from 3 on: `BadVersion` for
-    /// another version than 1, 2 and 3, `BadShape` for a stretch of a length that the version
-    /// doesn't allow (version 3 has no stretch) or a class of version 3 with more than what is left
-    /// over at midnight, and the others as [`CertFault`] says.
+    /// The error is the fault with the smallest number, from 3 on: `BadVersion` for a version other
+    /// than 1, 2 and 3; `BadShape` for a stretch of a length that the version doesn't allow
+    /// (version 3 has no stretch), or a class of version 3 with more than what is left over at
+    /// midnight; the others as [`CertFault`] says.
     pub fn new(
         version: u8,
         classes: Sequence<Class>,
@@ -48,8 +46,7 @@ impl Certificate {
         })
     }
 
-    /// The certificate of these parts, or the fault with the smallest number, as of
-    /// [`new`](Certificate::new).
+    /// Like [`new`](Certificate::new), of parts.
     pub fn of_parts(parts: Parts) -> Result<Certificate, CertFault>
         ensures { Tells content result (judged (content_of parts)) }
     {
@@ -59,7 +56,6 @@ impl Certificate {
         }
     }
 
-    /// The parts, which keep the rules.
     fn parts(&self) -> &Parts
         ensures value { result.now ≡ self.now.parts }
         ensures kept { Keeps (content self.now) }
@@ -67,7 +63,7 @@ impl Certificate {
         &self.parts
     }
 
-    /// Returns the parts.
+    /// Returns the parts, which keep the rules.
     pub fn as_parts(&self) -> &Parts
         ensures { content_of result.now ≡ content self.now }
     {

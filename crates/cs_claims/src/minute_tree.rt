@@ -1,5 +1,3 @@
-//! The rules of a certificate's minute trees.
-
 ghost use Rattle.std.specs.Prelude.{◌≡◌, nat_le};
 ghost use Rattle.cs_windows.specs.Tree.{tree_of};
 ghost use Rattle.cs_claims.specs.Rules.{depth, entries_fit, is_short, leaves_pass};
@@ -8,7 +6,6 @@ use crate::limits::{MAX_ENTRIES, MAX_JOBS};
 use cs_civil::MINUTES_OF_DAY;
 use cs_windows::{Entry, MinuteTree};
 
-/// Whether the depth is at most the limit: 0 for a leaf, else one more than the deeper half.
 pub(crate) fn is_no_deeper_than(tree: &MinuteTree, limit: u8) -> bool
     ensures { result ≡ nat_le (depth (tree_of tree.now)) limit }
 {
@@ -32,7 +29,6 @@ fn entries_fit(entries: &[Entry], days: u8) -> bool
     })
 }
 
-/// Whether each entry has a job and a minute in range, and starts less than `days` days before.
 pub(crate) fn has_entries(tree: &MinuteTree, days: u8) -> bool
     ensures { result ≡ leaves_pass (entries_fit days) (tree_of tree.now) }
 {
@@ -46,7 +42,6 @@ pub(crate) fn has_entries(tree: &MinuteTree, days: u8) -> bool
     }
 }
 
-/// Whether no leaf has more than [`MAX_ENTRIES`] entries.
 pub(crate) fn has_short_leaves(tree: &MinuteTree) -> bool
     ensures { result ≡ leaves_pass is_short (tree_of tree.now) }
 {

@@ -16,10 +16,10 @@ use cs_civil::Sequence;
 use cs_daytree::DayTree;
 use cs_windows::JobReach;
 
-/// The parts of a certificate, by its rules or not.
+/// The parts of a certificate, whether they keep its rules or not.
 #[derive(Drop)]
 pub struct Parts {
-    /// The version: 1, 2 or 3.
+    /// The version, which is to be 1, 2 or 3.
     pub version: u8,
     /// The classes of days, numbered from 0.
     pub classes: Sequence<Class>,
@@ -41,7 +41,6 @@ fn most_days(version: u8) -> u8
     }
 }
 
-/// The greatest reach, in minutes.
 fn most_reach(version: u8) -> u16
     ensures { result ≡ most_reach version }
 {

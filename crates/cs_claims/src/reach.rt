@@ -19,7 +19,6 @@ fn are_reaches(reach: &[JobReach], most: u16) -> bool
     reach.iter().all(|of_job| of_job.job < MAX_JOBS && 0 < of_job.reach && of_job.reach <= most)
 }
 
-/// Whether jobs rise and are in range, and each reach is from 1 to the most.
 pub(crate) fn reach_fits(reach: &[JobReach], most: u16) -> bool
     ensures { result ≡ reach_fits most reach.now }
 {

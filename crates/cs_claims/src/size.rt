@@ -6,13 +6,12 @@ use cs_daytree::{DayTree, KindPart};
 use cs_wait::Piece;
 use cs_windows::{Entry, JobReach, MinuteTree};
 
-/// What is listed in the text of a certificate.
+/// Something that a certificate's text lists.
 trait Listed {
     /// The bytes of its text.
     fn text(&self) -> u64;
 }
 
-/// The sum of a few lengths.
 fn total(lengths: &[u64]) -> u64 {
     let mut total: u64 = 0;
     for length in lengths {
@@ -34,7 +33,7 @@ fn list<T: Listed>(items: &[T]) -> u64 {
     text
 }
 
-/// The digits of a number, which in a certificate are at most 7.
+/// The digits of a number, of which a certificate's have at most 7.
 fn digits(number: u32) -> u64 {
     match number {
         0..=9 => 1,
@@ -124,7 +123,8 @@ fn minute_tree(tree: &MinuteTree) -> u64 {
     }
 }
 
-/// The list of these classes in version 3: `{"carry":[..]}` each, with `[group,minutes]` for each group.
+/// The list of classes of version 3: of each `{"carry":[..]}`, with `[group,minutes]` for each
+/// group.
 fn compact_classes(classes: &[Class]) -> u64 {
     let mut text = brackets(classes.len());
     for class in classes {
@@ -139,7 +139,6 @@ fn compact_classes(classes: &[Class]) -> u64 {
     text
 }
 
-/// The name of a part.
 fn part(part: KindPart) -> u64 {
     match part {
         KindPart::Month => 5,
@@ -167,7 +166,7 @@ fn day_tree(tree: &DayTree) -> u64 {
     }
 }
 
-/// Returns the length of a certificate's text in bytes, or less: whoever makes the text compares
+/// Returns the length of a certificate's text in bytes, or less. Whoever makes the text compares
 /// its length with [`MAX_CERTIFICATE`](crate::MAX_CERTIFICATE).
 pub fn least_text(certificate: &Certificate) -> u64 {
     let (names, classes, stretches) = match certificate.version() {

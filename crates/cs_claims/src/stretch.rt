@@ -22,14 +22,12 @@ pub struct Stretch {
 }
 
 impl Stretch {
-    /// Whether each split is inside its range.
     fn is_split_well(&self) -> bool
         ensures { result ≡ is_split_well (stretch_of self.now) }
     {
         self.tree.splits_inside()
     }
 
-    /// Whether this one comes first: by length, then by their classes.
     fn comes_before(&self, other: &Stretch) -> bool
         ensures { result ≡ comes_before self.now.of other.now.of }
     {
@@ -45,14 +43,12 @@ fn are_below(classes: &[u32], count: usize) -> bool
     classes.iter().all(|class| (*class as usize) < count)
 }
 
-/// Whether each stretch has from two days to the most.
 pub(crate) fn have_days(stretches: &[Stretch], most: u8) -> bool
     ensures { result ≡ list_all (λ s. has_days most (stretch_of s)) stretches.now }
 {
     stretches.iter().all(|stretch| 2 <= stretch.of.len() && stretch.of.len() <= usize::from(most))
 }
 
-/// Whether no tree is deeper than [`MAX_DEPTH`].
 pub(crate) fn are_shallow(stretches: &[Stretch]) -> bool
     ensures { result ≡ list_all (λ s. is_shallow (stretch_of s)) stretches.now }
 {
@@ -61,14 +57,12 @@ pub(crate) fn are_shallow(stretches: &[Stretch]) -> bool
         .all(|stretch| is_no_deeper_than(&stretch.tree, MAX_DEPTH))
 }
 
-/// Whether each split of a tree is inside its range.
 pub(crate) fn are_split_well(stretches: &[Stretch]) -> bool
     ensures { result ≡ list_all (λ s. is_split_well (stretch_of s)) stretches.now }
 {
     stretches.iter().all(|stretch| stretch.is_split_well())
 }
 
-/// Whether each class is below the count.
 pub(crate) fn are_of_classes(stretches: &[Stretch], count: usize) -> bool
     ensures { result ≡ list_all (λ s. is_of_classes count (stretch_of s)) stretches.now }
 {
@@ -77,14 +71,12 @@ pub(crate) fn are_of_classes(stretches: &[Stretch], count: usize) -> bool
         .all(|stretch| are_below(stretch.of.as_slice(), count))
 }
 
-/// Whether the stretches rise strictly: by length, then by their classes.
 pub(crate) fn rise(stretches: &[Stretch]) -> bool
     ensures { result ≡ each_next (λ s t. comes_before s.of t.of) stretches.now }
 {
     stretches.is_sorted_by(|one, next| one.comes_before(next))
 }
 
-/// Whether each entry has a job and a minute in range, and starts less than `days` days before.
 pub(crate) fn have_entries(stretches: &[Stretch], days: u8) -> bool
     ensures { result ≡ list_all (λ s. has_entries days (stretch_of s)) stretches.now }
 {
@@ -93,7 +85,6 @@ pub(crate) fn have_entries(stretches: &[Stretch], days: u8) -> bool
         .all(|stretch| has_entries(&stretch.tree, days))
 }
 
-/// Whether no leaf is too long.
 pub(crate) fn have_short_leaves(stretches: &[Stretch]) -> bool
     ensures { result ≡ list_all (λ s. has_short_leaves (stretch_of s)) stretches.now }
 {

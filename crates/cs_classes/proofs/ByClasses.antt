@@ -1,4 +1,3 @@
--- What is looked up by its classes.
 use Rattle.std.proofs.Common.{◌≡◌, ℕ, ◌+◌, ◌<◌, ◌++◌, ◌∷◌, [], ◌||◌, Bool, true, false, cond, List, Option, None, Some, Bor, Contains, take, length, get_or, refl, sym, ap, subst, ◌∙◌}
 use Rattle.std.specs.Prelude.{nat_eq}
 use Rattle.std.specs.List.{list_any}
@@ -36,11 +35,9 @@ any_push p (x ∷ xs) y = ap (λ (b : Bool). p x || b) (any_push p xs y) ∙ or_
     or_assoc true b c = refl
     or_assoc false b c = refl
 
--- neither an element nor one more passes
 none_more : {X : Type 0} (p : X → Bool) (xs : List X) (y : X) → list_any p xs ≡ false → p y ≡ false → list_any p (xs ++ y ∷ []) ≡ false
 none_more p xs y e f = any_push p xs y ∙ ap (λ (b : Bool). b || p y) e ∙ f
 
--- an element of the list that passes
 passes : {X : Type 0} (p : X → Bool) (xs : List X) (x : X) → Contains xs x → p x ≡ true → list_any p xs ≡ true
 passes p xs x there e = list_any_at p xs there.0 x there.1 (ap p there.2 ∙ e)
 
@@ -70,7 +67,6 @@ found_now listed x key classes before now named is f = by (same_classes key clas
     by false e = subst (IsFoundBy (listed ++ x.now ∷ []) classes.now) (sym (is ∙ ap (λ (b : Bool). cond b (Some x) before) e))
         (found_still listed x.now classes.now before (ap (λ (cs : List ℕ). same_list cs classes.now) (sym named) ∙ sym (slices_same key.now classes.now) ∙ e) f)
 
--- one more list among the lists, unless it is there
 among_insert : (classes : List ℕ) (lists : List (Bor (List ℕ))) (list : Bor (List ℕ)) → is_among (insert_key same_classes lists list) classes ≡ (is_among lists classes || pointwise nat_eq classes list.now)
 among_insert classes lists list = by (list_any (same_classes list) lists) refl
   where
@@ -97,7 +93,6 @@ among_more of classes lists list xs i x within is named h =
     ∙ ap (λ (b : Bool). list_any (λ y. same_list (of y) classes) (take i xs) || b) (slices_same classes list.now ∙ same_either_way classes list.now ∙ ap (λ (cs : List ℕ). same_list cs classes) named)
     ∙ sym (any_push (λ y. same_list (of y) classes) (take i xs) x) ∙ ap (list_any (λ y. same_list (of y) classes)) (one_more xs i x within is)
 
--- a chain that is found has the classes, and where none is found none has
 pub found_some : (listed : List ClassedChain) (classes : List ℕ) (found : Option (Bor ClassedChain)) → IsFoundBy listed classes found → IfSome found (λ chain. Contains listed chain.now × (classes_in chain.now ≡ classes))
 found_some listed classes None f = tt
 found_some listed classes (Some chain) f = f

@@ -1,10 +1,8 @@
--- What several threads answered, put together.
 use Rattle.std.proofs.Common.{List, [], ◌∷◌, Ok, Result, map}
 use Rattle.std.specs.Prelude.{IfOk}
 use Rattle.std.specs.List.{AllZip}
 use Rattle.std.specs.declared.alloc.AllocError.{AllocError}
 
--- what the answers have, where each is one
 pub of_answers : {X Y : Type 0} (P : X → Y → Type 0) (xs : List X) (ys : List Y) → AllZip (λ x (r : Result Y AllocError). IfOk r (P x)) xs (map Ok ys) → AllZip P xs ys
 of_answers P [] [] h = h
 of_answers P [] (y ∷ ys) h = absurd h

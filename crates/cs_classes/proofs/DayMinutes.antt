@@ -1,4 +1,3 @@
--- Minutes of one day that rise.
 use Rattle.std.proofs.Common.{◌≡◌, ℕ, zero, suc, ◌+◌, ◌<◌, ◌≤◌, Bool, true, false, cond, ◌||◌, List, [], ◌∷◌, filter, All, nat_eq, refl, ap, ◌∙◌, subst, arith}
 use Rattle.std.specs.List.{range_with_len}
 use Rattle.std.proofs.lemmas.Bool.{eqb-true, eq-eqb, ne_eqb, both_ways}
@@ -19,7 +18,6 @@ range_rising p a (suc n) le = step (p a) (range_rising p (a + 1) n (omega (arith
     step true h = (omega arith, omega (arith, le), h)
     step false h = lower (a + 1) a (filter p (range_with_len (a + 1) n)) (omega arith) h
 
--- the minutes of a day that pass a test
 pub where_rising : (p : ℕ → Bool) → AreRising (minutes_where p)
 unfolding minutes_where
 where_rising p = range_rising p 0 1440 (omega arith)
@@ -47,6 +45,5 @@ all_from_each P least (k ∷ ms) r h =
     later true c e = refl
     later false c e = e
 
--- the first of a list is one of it
 pub first_is : (left rest : List ℕ) (k : ℕ) → left ≡ k ∷ rest → has left k ≡ true
 first_is left rest k e = ap (λ (ms : List ℕ). has ms k) e ∙ rw (eq-eqb k k refl) refl

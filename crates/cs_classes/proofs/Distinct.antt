@@ -8,7 +8,6 @@ use Rattle.cs_theorem.specs.Faults.{first_of, or_else, same_list}
 use Rattle.cs_theorem.proofs.Chains.{is_same_list}
 use Rattle.cs_classes.specs.StandsFor.{bare, distinct, with_list}
 
--- whether these classes are among the lists
 abbrev pub among : List ℕ → List (List ℕ) → Bool
 among classes lists = list_any (λ list. same_list list classes) lists
 
@@ -19,7 +18,6 @@ or_true false = refl
 true_or : (a b : Bool) → a ≡ true → (a || b) ≡ true
 true_or a b e = ap (λ (x : Bool). x || b) e
 
--- what is among the lists stays there
 with_kept : (lists : List (List ℕ)) (one other : List ℕ) → among one lists ≡ true → among one (with_list lists other) ≡ true
 with_kept lists one other h = by (among other lists)
   where
@@ -27,7 +25,6 @@ with_kept lists one other h = by (among other lists)
     by true = h
     by false = list_any-append (λ list. same_list list one) lists (other ∷ []) ∙ true_or (among one lists) (among one (other ∷ [])) h
 
--- and what is added is there
 with_has : (lists : List (List ℕ)) (one : List ℕ) → among one (with_list lists one) ≡ true
 with_has lists one = by (among one lists) refl
   where
@@ -68,7 +65,6 @@ fold_all P g (x ∷ xs) lists h each = fold_all P g xs (with_list lists (g x)) (
 pub only_given : {X : Type 0} (P : List ℕ → Type 0) (g : X → List ℕ) (xs : List X) → AllByRecursion (λ x. P (g x)) xs → AllByRecursion P (distinct (map g xs))
 only_given P g xs each = fold_all P g xs [] tt each
 
--- each element is like one of them
 pub each_itself : {X : Type 0} (g : X → List ℕ) (xs : List X) → AllByRecursion (λ x. list_any (λ y. same_list (g y) (g x)) xs ≡ true) xs
 each_itself {X} g xs = among_all xs xs (λ p h. h)
   where
@@ -79,22 +75,18 @@ each_itself {X} g xs = among_all xs xs (λ p h. h)
       among_all ys all (λ p h. part p (ap (λ (b : Bool). p y || b) h ∙ or_true (p y))),
     )
 
--- all that pass are kept
 pub all_pass : (p : List ℕ → Bool) (lists : List (List ℕ)) → AllByRecursion (λ l. p l ≡ true) lists → filter (λ (s : Stretch). p s.of) (map bare lists) ≡ map bare lists
 all_pass p [] h = refl
 all_pass p (l ∷ ls) h = rw h.0 (ap (λ (ss : List Stretch). bare l ∷ ss) (all_pass p ls h.1))
 
--- no answer where each gives none
 pub none_of_each : {X Y : Type 0} (f : X → Option Y) (xs : List X) → AllByRecursion (λ x. f x ≡ None) xs → first_of f xs ≡ None
 none_of_each f [] h = refl
 none_of_each f (x ∷ xs) h = ap (λ (o : Option _). or_else o (first_of f xs)) h.0 ∙ none_of_each f xs h.1
 
--- what holds of each that is made
 pub each_made : {X Y : Type 0} (P : Y → Type 0) (f : X → Y) (xs : List X) → ((x : X) → P (f x)) → AllByRecursion P (map f xs)
 each_made P f [] h = tt
 each_made P f (x ∷ xs) h = (h x, each_made P f xs h)
 
--- of a filtered list too
 pub none_of_kept : {X Y : Type 0} (f : X → Option Y) (p : X → Bool) (xs : List X) → AllByRecursion (λ x. f x ≡ None) xs → first_of f (filter p xs) ≡ None
 none_of_kept f p [] h = refl
 none_of_kept {X} {Y} f p (x ∷ xs) h = by (p x) (none_of_kept f p xs h.1)
@@ -103,7 +95,6 @@ none_of_kept {X} {Y} f p (x ∷ xs) h = by (p x) (none_of_kept f p xs h.1)
     by true rest = ap (λ (o : Option Y). or_else o (first_of f (filter p xs))) h.0 ∙ rest
     by false rest = rest
 
--- what follows for each
 pub each_more : {X : Type 0} (P Q : X → Type 0) (xs : List X) → ((x : X) → P x → Q x) → AllByRecursion P xs → AllByRecursion Q xs
 each_more P Q [] step h = tt
 each_more P Q (x ∷ xs) step h = (step x h.0, each_more P Q xs step h.1)

@@ -1,4 +1,3 @@
--- The search for the first day that ends days of given classes.
 use Rattle.std.proofs.Common.{ℕ, zero, suc, ◌+◌, ◌-◌, ◌<◌, ◌≡◌, Bool, true, false, cond, List, [], ◌∷◌, Option, Some, None, refl, sym, ap, ◌∙◌, arith, map, ◌++◌}
 use Rattle.std.specs.Prelude.{find, unwrap_or}
 use Rattle.std.specs.List.{range_with_len}
@@ -29,7 +28,6 @@ opened t m (suc k) b l e =
     let s : k ≡ suc k - 1 = omega arith in
     ap (λ (c : Bool). cond c (Some m) (find t (range_with_len (m + 1) k))) e ∙ ap (λ (j : ℕ). cond b (Some m) (find t (range_with_len (m + 1) j))) s
 
--- a day that doesn't, and one that does
 pub passed : (t : ℕ → Bool) (m j k : ℕ) (r : Option ℕ) → 0 < j → j ≡ k + 1 → t m ≡ false → find t (range_with_len m j) ≡ r → find t (range_with_len (m + 1) k) ≡ r
 passed t m j k r l s e h = let p : k ≡ j - 1 = omega (arith, s) in ap (λ (i : ℕ). find t (range_with_len (m + 1) i)) p ∙ sym (opened t m j false l e) ∙ h
 
@@ -46,7 +44,6 @@ range_more a (suc n) =
     let s : suc (n + 1) ≡ suc n + 1 = omega arith in
     ap (λ (x : ℕ). a ∷ (range_with_len (a + 1) n ++ x ∷ [])) e ∙ ap (λ (l : List ℕ). a ∷ l) (range_more (a + 1) n) ∙ ap (range_with_len a) s
 
--- the classes of one day more
 pub classes_more : (c : Claimed) (first n class : ℕ) → class ≡ class_of c (kind (first + n)) → classes_on c first n ++ class ∷ [] ≡ classes_on c first (n + 1)
 classes_more c first n class e =
     ap (λ (k : ℕ). classes_on c first n ++ k ∷ []) e

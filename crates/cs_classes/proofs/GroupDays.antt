@@ -1,4 +1,3 @@
--- What classes have for the locks of groups, compared with how their bounds follow the arrivals.
 use Rattle.std.proofs.Common.{◌≡◌, ℕ, ◌+◌, ◌<◌, ◌++◌, ◌∷◌, [], List, Bool, true, false, length, slice_index_or, refl, sym, subst, arith, inl, inr}
 use Rattle.std.proofs.lemmas.Bool.{cases_lt}
 use Rattle.std.proofs.lemmas.List.{get_or_push, get_or_append_left}
@@ -11,7 +10,6 @@ use Rattle.cs_classes.specs.Work.{IsSteady, arrivals_in}
 use Rattle.cs_classes.proofs.Midnight.{steps_join, steps_split}
 use Rattle.cs_history.specs.Plan.{Plan}
 
--- one more group's day
 pub one_more : (p : Plan) (class : Class) (days : List GroupDay) (n : ℕ) (day : GroupDay) → length days ≡ n
     → ((g : ℕ) → g < n → IsGroupDay p class g (slice_index_or days g no_day)) → IsGroupDay p class n day
     → (g : ℕ) → g < n + 1 → IsGroupDay p class g (slice_index_or (days ++ day ∷ []) g no_day)
@@ -33,7 +31,6 @@ steady_from_leads p e d eve day a b leads g lt waiter =
     let w = (b.1 g lt).waited waiter in
     steps_join (bound_in e g) (arrivals_in p e g) (bound_in d g) (v.within.0 l.0) (omega (arith, l.1, v.last, w.start))
 
--- and the other way round
 pub leads_from_steady : (p : Plan) (e d : Class) (eve day : List GroupDay) → AreGroupDays p e eve → AreGroupDays p d day → IsSteady p e d
     → (g : ℕ) → g < length eve → g < length day → Leads (slice_index_or eve g no_day) (slice_index_or day g no_day)
 leads_from_steady p e d eve day a b steady g lt other = step (has_waiter p g) refl

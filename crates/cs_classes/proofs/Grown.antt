@@ -1,11 +1,9 @@
--- Lists of chains that grow.
 use Rattle.std.proofs.Common.{ℕ, zero, suc, ◌+◌, ◌-◌, ◌<◌, ◌≤◌, ◌≡◌, List, [], ◌∷◌, ◌++◌, map, length, get_or, drop, drop-cons, refl, sym, ap, ◌∙◌, arith, append_assoc, append-nil}
 use Rattle.std.specs.Prelude.{flat_map}
 use Rattle.std.proofs.lemmas.List.{map-append, drop_all}
 use Rattle.cs_civil.specs.Calendar.{Kind, kinds_after}
 use Rattle.cs_theorem.specs.Faults.{chains_from}
 
--- what the first element makes is added
 pub grown : {X Y Z : Type 0} (g : Y → Z) (f : X → List Y) (a b c : List Z) (x : X) (xs : List X) → b ≡ a ++ map g (f x) → a ++ map g (flat_map f (x ∷ xs)) ≡ c → b ++ map g (flat_map f xs) ≡ c
 grown {X} {Y} {Z} g f a b c x xs e h =
     ap (λ (l : List Z). l ++ map g (flat_map f xs)) e ∙ append_assoc a (map g (f x)) (map g (flat_map f xs))

@@ -1,4 +1,3 @@
--- The kinds of days that have the classes of a stretch.
 use Rattle.std.proofs.Common.{ℕ, ◌<◌, ◌≤◌, ◌≡◌, ◌||◌, Bool, true, List, [], ◌∷◌, map, length, get_or, All, refl, sym, ap, ◌∙◌, subst}
 use Rattle.std.specs.List.{list_any}
 use Rattle.std.proofs.lemmas.List.Elements.{All-contains, All-head, All-map, All-tail}
@@ -39,6 +38,5 @@ have_classes c n s cs kinds l h one =
 pub is_in_use : (c : Claimed) (n : ℕ) (s : List ℕ) (kinds : List Kind) → 1 ≤ n → HaveClasses c n s kinds → is_used (as_certificate c) n s ≡ true
 is_in_use c n s kinds l h = (tells_used (as_certificate c) n s l).1 (record { kinds = kinds; chain = h.chain; long = h.long; classes = h.classes })
 
--- the classes that the kinds have are there
 pub classes_there : (c : Claimed) (n : ℕ) (s : List ℕ) (kinds : List Kind) → HasClassOfEach c → HaveClasses c n s kinds → All (λ class. class < length c.classes) s
 classes_there c n s kinds there h = subst (All (λ (class : ℕ). class < length c.classes)) h.classes (All-map (λ (class : ℕ). class < length c.classes) (class_of c) kinds (λ i d lt. there (get_or kinds i d)))

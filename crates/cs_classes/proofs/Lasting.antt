@@ -1,4 +1,3 @@
--- Windows that end within so many days.
 use Rattle.std.proofs.Common.{ℕ, ◌+◌, ◌-◌, ◌*◌, ◌<◌, ◌≤◌, ◌≡◌, ◌==◌, ◌&&◌, ◌||◌, not, Bool, true, false, cond, if◌then◌else◌, List, [], ◌∷◌, filter, map, refl, sym, ap, ◌∙◌, arith}
 use Rattle.std.specs.Prelude.{nat_le}
 use Rattle.std.specs.List.{list_all, range_with_len}
@@ -23,7 +22,6 @@ all_map t f (x ∷ xs) = ap (λ (b : Bool). t (f x) && b) (all_map t f xs)
 fits_is : (p : Plan) (on : ℕ → Kind → ℕ → Bool) (c : ℕ → ℕ) (k : ℕ) → fits p on c k ≡ list_all (job_fits k) (occupied p on c)
 fits_is p on c k = sym (all_map (job_fits k) _ (below p.jobs))
 
--- the length of the stretches, by the jobs as their windows see them
 pub length_by : (p : Plan) (on : ℕ → Kind → ℕ → Bool) (c : ℕ → ℕ) (jobs : List (Job Kind)) (x y : Bool) → jobs ≡ occupied p on c → list_all (job_fits 2) jobs ≡ x → list_all (job_fits 3) jobs ≡ y → stretch_length p on c ≡ (if x then 2 else (if y then 3 else 4))
 unfolding stretch_length
 length_by p on c jobs x y e f g =
@@ -54,7 +52,6 @@ short_fits job n l short = all_true (ends_on job n) all_kinds (λ k _. minutes_t
 abbrev pub each_day : ℕ → ℕ → Job Kind
 each_day from reach = record { begins = λ kind minute. minute == from; lasts = reach }
 
--- the window that begins at one minute of each day
 past_step : (from n r m : ℕ) → 1440 ≤ from → m < 1440 → (b : Bool) → (m == from) ≡ b → (not b || nat_le (m + r) (1440 * n)) ≡ true
 past_step from n r m past lt true e = absurd (let q : m ≡ from = eqb-true m from e in omega (arith, q, past, lt))
 past_step from n r m past lt false e = refl

@@ -1,4 +1,3 @@
--- Sets of minutes by what they have, and lists of numbers below one.
 use Rattle.std.proofs.Common.{◌≡◌, ℕ, zero, ◌+◌, ◌<◌, length, slice_index_or, map, Bor, Bool, true, false, cond, List, [], ◌∷◌, ◌++◌, filter, suc, if◌then◌else◌, nat_eq, refl, sym, ap, ◌∙◌, subst, arith}
 use Rattle.std.specs.List.{list_any}
 use Rattle.cs_claims.specs.declared.class.Class.{Class}
@@ -28,7 +27,6 @@ total_one : (f : ℕ → ℕ) (b : Bool) (y : ℕ) → total f (if b then y ∷ 
 total_one f true y = omega arith
 total_one f false y = refl
 
--- of the numbers below n + 1, those that pass
 pub total_passing : (f : ℕ → ℕ) (t : ℕ → Bool) (n : ℕ) → total f (filter t (below (n + 1))) ≡ total f (filter t (below n)) + (if t n then f n else 0)
 total_passing f t n =
     let e : n + 1 ≡ suc n = omega arith in
@@ -47,7 +45,6 @@ within [] i d e lt = absurd (omega (arith, lt))
 within (x ∷ xs) zero d e lt = refl
 within (x ∷ xs) (suc i) d e lt = within xs i d e (omega (arith, lt))
 
--- the first of some days
 pub first_day : (days : List (Bor Class)) (x : Bor Class) → 0 < length days → x ≡ slice_index_or days 0 x → class_at (map (λ (class : Bor Class). class.now) days) 0 ≡ x.now
 first_day [] x lt e = absurd (omega (arith, lt))
 first_day (d ∷ days) x lt e = sym (ap (λ (class : Bor Class). class.now) e)

@@ -1,4 +1,3 @@
--- The steps of a day, and the one over midnight.
 use Rattle.std.proofs.Common.{◌≡◌, ℕ, ◌+◌, ◌-◌, ◌<◌, ◌≤◌, ◌∷◌, [], refl, subst, arith, inl, inr}
 use Rattle.std.proofs.lemmas.Bool.{lt-ltb, cases_lt}
 use Rattle.cs_wait.specs.Bounds.{StepsHold, StepsHoldWithin, at_days}

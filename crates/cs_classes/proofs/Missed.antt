@@ -1,4 +1,3 @@
--- Chains that no stretch has.
 use Rattle.std.proofs.Common.{◌≡◌, Bool, true, false, List, ◌∷◌, map, Option, Some, ap}
 use Rattle.std.specs.List.{list_any}
 use Rattle.cs_civil.specs.Calendar.{Kind}

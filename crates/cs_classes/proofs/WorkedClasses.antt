@@ -1,4 +1,3 @@
--- Kinds of days by their classes, and what was worked out of a certificate.
 use Rattle.std.proofs.Common.{◌≡◌, ◌==◌, ℕ, zero, suc, Bool, true, false, List, [], ◌∷◌, Ok, Err, Option, None, Some, Result, Vec, Global, length, map, refl, sym, ap, arith, subst, ◌∙◌}
 use Rattle.std.specs.Prelude.{find, Contains, IfOk, MatchResult}
 use Rattle.std.specs.List.{AllZip, range_with_len}
@@ -30,7 +29,6 @@ first_of_these c class (kind ∷ kinds) = by (class_of c kind == class) refl (fi
 pub first_of_all : (c : Content) (class : ℕ) → first_classed (map (classed_kind c) all_kinds) class ≡ first_kind c class
 first_of_all c class = first_of_these c class all_kinds
 
--- what was worked out of each number below n, in order
 pub all_worked : {X : Type 0} (f : ℕ → X) (n : ℕ) (numbers : List ℕ) (answers : List (Result X AllocError)) (r : Result (Vec X Global) AllocError) → numbers ≡ range_with_len 0 n
     → AllZip (λ number (answer : Result X AllocError). IfOk answer (λ x. x ≡ f number)) numbers answers
     → MatchResult r (λ v. (ys : List X) × (answers ≡ map Ok ys) × (v.items ≡ ys)) (λ e. Contains answers (Err e))

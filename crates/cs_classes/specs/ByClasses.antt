@@ -1,4 +1,3 @@
--- Chains and stretches that are looked up by their classes.
 use Rattle.std.specs.Prelude.{◌≡◌, ℕ, Bool, false, List, Option, None, Some, Contains, nat_eq}
 use Rattle.std.specs.Borrow.{Bor}
 use Rattle.std.specs.List.{list_any}
@@ -7,20 +6,18 @@ use Rattle.indexmap.specs.IndexMap.{IndexMap, get}
 use Rattle.cs_classes.specs.Used.{classes_in, has_classes}
 use Rattle.cs_classes.specs.declared.classed.ClassedChain.{ClassedChain}
 
--- whether two lent lists of classes are the same
 abbrev pub same_classes : Bor (List ℕ) → Bor (List ℕ) → Bool
 same_classes one other = pointwise nat_eq one.now other.now
 
--- whether the classes are one of the lists
 abbrev pub is_among : List (Bor (List ℕ)) → List ℕ → Bool
 is_among lists classes = list_any (λ list. pointwise nat_eq classes list.now) lists
 
--- what is found by these classes: a chain of the list that has them, or nothing, where none has
+-- what these classes find: a chain of the list that has them, or nothing if none has
 abbrev pub IsFoundBy : List ClassedChain → List ℕ → Option (Bor ClassedChain) → Type 0
 IsFoundBy chains classes None = list_any (has_classes classes) chains ≡ false
 IsFoundBy chains classes (Some chain) = Contains chains chain.now × (classes_in chain.now ≡ classes)
 
--- by each list of classes that is found
+-- each list of classes leads to what it finds
 abbrev pub LeadTo : {S : Type 0} → List ClassedChain → IndexMap (Bor (List ℕ)) (Bor ClassedChain) S
     → Type 0
 LeadTo chains by =

@@ -1,4 +1,3 @@
--- Chains of kinds, as lists.
 use Rattle.std.specs.Prelude.{List}
 use Rattle.arrayvec.specs.ArrayVec.{ArrayVec}
 use Rattle.cs_civil.specs.Calendar.{Kind}

@@ -8,18 +8,18 @@ use Rattle.cs_windows.specs.Reach.{reach_of}
 use Rattle.cs_windows.specs.declared.reach.JobReach.{JobReach}
 use Rattle.cs_theorem.specs.Certificate.{Certificate, Stretch}
 
--- classes by number, the class of each kind of day, stretches and reaches
+-- classes are numbered from 0
 pub record Claimed : Type 0 where
   pub classes : List Class
   pub kinds : day.Tree
   pub stretches : List Stretch
   pub reach : List JobReach
 
--- the class of a kind of day, by its number
+-- the number of the class of a kind of day
 abbrev pub class_of : Claimed → Kind → ℕ
 class_of c kind = day.class_in c.kinds kind
 
--- the class of each kind is there
+-- the class of each kind exists
 abbrev pub HasClassOfEach : Claimed → Type 0
 HasClassOfEach c = (kind : Kind) → class_of c kind < length c.classes
 

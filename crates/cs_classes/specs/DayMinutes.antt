@@ -1,10 +1,9 @@
--- The minutes of one day in a list.
 use Rattle.std.specs.Prelude.{◌≡◌, ℕ, ◌+◌, ◌<◌, ◌≤◌, List, [], ◌∷◌, length, slice_index_or}
 use Rattle.cs_claims.specs.Certificate.{is_due_in}
 use Rattle.cs_claims.specs.declared.class.Class.{Class}
 use Rattle.cs_schedule.specs.Numbers.{has}
 
--- minutes of a day from the least on, each once, rising
+-- minutes of a day, from the least on, rising, each once
 abbrev pub AreRisingFrom : ℕ → List ℕ → Type 0
 AreRisingFrom least [] = Unit {0}
 AreRisingFrom least (m ∷ ms) = (least ≤ m) × (m < 1440) × AreRisingFrom (m + 1) ms

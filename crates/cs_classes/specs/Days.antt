@@ -1,4 +1,3 @@
--- The classes of successive days.
 use Rattle.std.specs.Prelude.{ℕ, List, map}
 use Rattle.std.specs.List.{range_with_len}
 use Rattle.cs_civil.specs.Calendar.{kind}

@@ -8,23 +8,22 @@ use Rattle.cs_classes.specs.declared.group_day.GroupDay.{GroupDay}
 use Rattle.cs_history.specs.Plan.{Plan}
 use Rattle.cs_wait.specs.Bounds.{StepsHoldWithin}
 
--- the group past the last: no arrivals and no bound
+-- past the last group: no arrivals and no bound
 abbrev pub no_day : GroupDay
 no_day = record { follows = true; left = 0; first = 0 }
 
--- of a group with a job that waits: whether its bound follows what arrives at each step within the
--- day, the bound and what arrives in the last minute, and the bound in the first
+-- a group with a job that waits: whether its bound follows the arrivals at each step within the
+-- day; the bound plus the arrivals in the last minute; the bound in the first minute
 pub record IsWaitedDay (p : Plan) (class : Class) (g : ℕ) (day : GroupDay) : Type 0 where
   pub within : IsTrue day.follows ↔ StepsHoldWithin (bound_in class g) (arrivals_in p class g)
   pub last : day.left ≡ bound_in class g 1439 + arrivals_in p class g 1439
   pub start : day.first ≡ bound_in class g 0
 
--- of any group: one that no job waits for has nothing that a bound could fail to follow
+-- a group without a job that waits: nothing could fail to follow, and nothing is left
 pub record IsGroupDay (p : Plan) (class : Class) (g : ℕ) (day : GroupDay) : Type 0 where
   pub waited : has_waiter p g ≡ true → IsWaitedDay p class g day
   pub free : has_waiter p g ≡ false → (day.follows ≡ true) × (day.left ≡ 0)
 
--- of each group
 abbrev pub AreGroupDays : Plan → Class → List GroupDay → Type 0
 AreGroupDays p class days = (length days ≡ p.groups)
     × ((g : ℕ) → g < p.groups → IsGroupDay p class g (slice_index_or days g no_day))

@@ -14,21 +14,22 @@ use Rattle.cs_classes.specs.Claim.{Claimed, class_at}
 use Rattle.cs_schedule.specs.Numbers.{has}
 use Rattle.cs_classes.specs.declared.likeness.Likeness.{Likeness}
 
--- whether a command is due on days of a kind, and at a minute of each such day (crontab(5))
+-- whether a command is due on days of a kind, by its month and day fields (crontab(5))
 abbrev pub is_due_day : When → Kind → Bool
 is_due_day (At schedule) kind = is_day_due schedule kind
 is_due_day Reboot kind = false
 
+-- whether it is due at a minute of each such day, by its hour and minute fields
 abbrev pub is_due_minute : When → ℕ → Bool
 is_due_minute (At schedule) minute = is_time_due schedule minute
 is_due_minute Reboot minute = false
 
--- whether a test of the minutes of a day passes just those that another passes
+-- whether two tests pass the same minutes of a day
 abbrev pub has_just : (ℕ → Bool) → (ℕ → Bool) → Bool
 has_just due test = list_all (λ m. same_bool (due m) (test m)) day_minutes
 
--- what a class is to a job, by the due minutes that it has for the job and those of the days on
--- which the job is due: whether it has just these, and whether it has none
+-- what a class is to a job: whether its minutes are those of the days on which the job is due, and
+-- whether it has none
 abbrev pub likeness_by : (ℕ → Bool) → (ℕ → Bool) → Likeness
 likeness_by due times =
     record { when_due = has_just due times; when_not = has_just due (λ m. false) }
@@ -36,26 +37,24 @@ likeness_by due times =
 abbrev pub likeness_of : When → ℕ → Class → Likeness
 likeness_of when job class = likeness_by (is_due_in class job) (is_due_minute when)
 
--- which of the two counts
+-- which of the two counts, by whether the job is due on the day
 abbrev pub likeness_on : Likeness → Bool → Bool
 likeness_on likeness due = if due then likeness.when_due else likeness.when_not
 
--- that at the place of a job; nothing is known past the last
+-- neither is known past the last job
 abbrev pub likeness_at : List Likeness → ℕ → Likeness
 likeness_at row n = slice_index_or row n (record { when_due = false; when_not = false })
 
--- a set for each cron job, by number: the minutes at which it is due on each day on which it is due
+-- for each cron job, by number, the minutes at which it is due on each day on which it is due
 pub record AreTimes (d : Declared) (times : List (List ℕ)) : Type 0 where
   pub long : length times ≡ crons d
   pub each : (j m : ℕ) → j < crons d → m < 1440
       → has (slice_index_or times j []) m ≡ is_due_minute (command_of d j).when m
 
--- a place for each cron job, by number: what the class is to it
 pub record IsRow (d : Declared) (class : Class) (row : List Likeness) : Type 0 where
   pub long : length row ≡ crons d
   pub each : (j : ℕ) → j < crons d → likeness_at row j ≡ likeness_of (command_of d j).when j class
 
--- a row for each class, by number
 pub record AreLikenesses (d : Declared) (c : Claimed) (rows : List (List Likeness)) : Type 0 where
   pub long : length rows ≡ length c.classes
   pub each : (n : ℕ) → n < length c.classes

@@ -1,4 +1,3 @@
--- What the jobs of a plan occupy.
 use Rattle.std.specs.Prelude.{◌≡◌, ◌<◌, ℕ, Bool, false, ◌==◌, List, map, if◌then◌else◌, length, unwrap_or}
 use Rattle.cs_civil.specs.Calendar.{Kind}
 use Rattle.cs_schedule.specs.Times.{Times, is_due as is_time_due}
@@ -18,32 +17,29 @@ abbrev pub is_due_on : When → Kind → ℕ → Bool
 is_due_on (At schedule) kind minute = is_time_due schedule kind minute
 is_due_on Reboot kind minute = false
 
--- whether a cron job of the plan is
+-- the same of a cron job of the plan
 abbrev pub due_on : Declared → ℕ → Kind → ℕ → Bool
 due_on d j kind minute = is_due_on (command_of d j).when kind minute
 
--- the reach of a job that waits: that which is listed, else its declared time
+-- the reach of a job that waits: the one that is listed, else its declared time
 abbrev pub reach_by : Declared → List JobReach → ℕ → ℕ
 reach_by d rs j = unwrap_or (reach_of rs j) ((as_plan d).limit j)
 
--- whether a window begins at a minute of such a day: where a cron job is due, or the hours begin
+-- a cron job's window begins when the job is due, an anacron job's when the catch-up hours begin
 abbrev pub begins_on : Declared → ℕ → Kind → ℕ → Bool
 begins_on d j kind minute =
     if is_cron (as_plan d) j then due_on d j kind minute else (minute == d.hours.from)
 
--- a job of the plan as its windows see it
 abbrev pub planned_job : Declared → List JobReach → ℕ → Job Kind
 planned_job d rs j = record { begins = begins_on d j; lasts = reach (as_plan d) (reach_by d rs) j }
 
--- all jobs of the plan, by number
 abbrev pub planned : Declared → List JobReach → List (Job Kind)
 planned d rs = map (planned_job d rs) (below (length d.jobs))
 
--- the schedule is that of the cron job with this number
 pub record IsSchedule (d : Declared) (j : ℕ) (schedule : Times) : Type 0 where
   pub cron : j < crons d
   pub when : (command_of d j).when ≡ At schedule
 
--- how long a window of a cron job lasts that is declared so
+-- how long the windows of a cron job last, if it is declared so
 abbrev pub cron_reach : List JobReach → ℕ → DeclaredJob → ℕ
 cron_reach rs j job = if waits_in job.mode then unwrap_or (reach_of rs j) job.max else job.max

@@ -1,4 +1,3 @@
--- Whether all that waits for the lock of a group has had it within a reach.
 use Rattle.std.specs.Prelude.{◌≡◌, ℕ, ◌<◌, true, List, map, unwrap_or}
 use Rattle.cs_claims.specs.declared.class.Class.{Class}
 use Rattle.cs_claims.specs.Certificate.{bound_in, is_due_in}
@@ -6,7 +5,7 @@ use Rattle.cs_history.specs.Plan.{Plan}
 use Rattle.cs_wait.specs.Bounds.{ClearsBy}
 use Rattle.cs_classes.specs.Claim.{class_at}
 
--- the bounds of the group of a job on successive days
+-- the bounds of the job's group on successive days; of group 0 if it has none
 abbrev pub bounds_of : Plan → ℕ → List Class → List (ℕ → ℕ)
 bounds_of p j days = map (λ class. bound_in class (unwrap_or (p.group j) 0)) days
 

@@ -1,6 +1,6 @@
--- What a certificate stands for. Versions 1 and 2 list all. Version 3 has which kinds of days are
--- alike, what is left over at midnight and the reaches; due minutes, the bounds of each day and the
--- stretches are worked out from the plan.
+-- What a certificate stands for. Versions 1 and 2 list all. Version 3 says which kinds of days are
+-- alike, what is left over at midnight, and the reaches; due minutes, the bounds of each day and
+-- the stretches are worked out from the plan.
 use Rattle.std.specs.Prelude.{ℕ, List, [], ◌∷◌, ◌++◌, Option, Some, None, if◌then◌else◌, ◌==◌, filter, find, flat_map, fold, length, map}
 use Rattle.std.specs.List.{list_any}
 use Rattle.cs_civil.specs.Calendar.{Kind}
@@ -25,48 +25,47 @@ use Rattle.cs_classes.specs.Work.{arrivals_in}
 abbrev pub first_kind : Content → ℕ → Option Kind
 first_kind c class = find (λ kind. class_of c kind == class) all_kinds
 
--- a job with the minutes at which it is due, if there are any
+-- the due minutes of a job, if there are any
 abbrev pub due_list : ℕ → List ℕ → List DueList
 due_list job [] = []
 due_list job (m ∷ ms) = record { job = job; minutes = m ∷ ms } ∷ []
 
--- when each cron job is due on days of a kind (crontab(5))
+-- when each cron job is due on days of a kind (crontab(5)); without a kind nothing is
 abbrev pub due_of : Declared → Option Kind → List DueList
 due_of d None = []
 due_of d (Some kind) =
     flat_map (λ j. due_list j (filter (due_on d j kind) day_minutes)) (below (crons d))
 
--- such a day, with no bounds
+-- a day of that kind, without bounds
 abbrev pub unbounded : Declared → Option Kind → Class
 unbounded d kind = record { due = due_of d kind; backlog = [] }
 
--- the bound of a group on such a day: what is left over from before, and then by the arrivals
+-- the bound of a group on such a day: first what is left over from before, then as the arrivals
+-- make it
 abbrev pub bound_of : Declared → Class → ℕ → ℕ → GroupBacklog
 bound_of d day carry g = record {
   group = g;
   backlog = following carry (map (arrivals_in (as_plan d) day g) day_minutes);
 }
 
--- the groups with a job that waits
 abbrev pub waited_groups : Declared → List ℕ
 waited_groups d = filter (has_waiter (as_plan d)) (below (as_plan d).groups)
 
--- a class with what is left over at midnight, on days of a kind
+-- what a class stands for on days of a kind: the due minutes of the plan, and bounds that begin
+-- with what the class has left over at midnight
 abbrev pub worked_class : Declared → Option Kind → Class → Class
 worked_class d kind class = record {
   due = due_of d kind;
   backlog = map (λ g. bound_of d (unbounded d kind) (bound_in class g 0) g) (waited_groups d);
 }
 
--- the class with a number, on days of the first kind that has it
+-- what the class with this number stands for, on days of the first kind that has it
 abbrev pub worked_of : Declared → Content → ℕ → Class
 worked_of d c n = worked_class d (first_kind c n) (class_at c.classes n)
 
--- the classes, by number
 abbrev pub worked_classes : Declared → Content → List Class
 worked_classes d c = map (worked_of d c) (below (length c.classes))
 
--- one more of the lists, unless it is among them
 abbrev pub with_list : List (List ℕ) → List ℕ → List (List ℕ)
 with_list lists classes =
     if list_any (λ list. same_list list classes) lists then lists else lists ++ classes ∷ []
@@ -79,11 +78,10 @@ distinct lists = fold with_list [] lists
 abbrev pub class_lists : Content → ℕ → List (List ℕ)
 class_lists c n = distinct (map (map (class_of c)) (chains n))
 
--- such days, with no tree
+-- a stretch that lists no windows
 abbrev pub bare : List ℕ → Stretch
 bare classes = record { of = classes; tree = None }
 
--- a stretch that is listed, with its tree
 abbrev pub listed : StretchTree → Stretch
 listed s = record { of = s.of; tree = Some s.tree }
 
@@ -96,7 +94,7 @@ as_listed c = record {
   reach = c.reach;
 }
 
--- the length of the stretches: the plan and the reaches decide it
+-- the length of the stretches, which the plan and the reaches decide
 abbrev pub days_by : Declared → List JobReach → ℕ
 days_by d reach = stretch_length (as_plan d) (due_on d) (reach_by d reach)
 

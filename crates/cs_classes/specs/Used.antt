@@ -1,4 +1,3 @@
--- The stretches that successive days have.
 use Rattle.std.specs.Prelude.{◌≡◌, ◌<◌, ℕ, Bool, List, All, Contains, None, Option, Some, ⊤, length, map, option_map}
 use Rattle.cs_civil.specs.Calendar.{Kind}
 use Rattle.cs_theorem.specs.Accepted.{IsChain}
@@ -11,7 +10,6 @@ use Rattle.cs_classes.specs.declared.claim.JudgedStretch.{JudgedStretch}
 use Rattle.cs_classes.specs.declared.classed.ClassedChain.{ClassedChain}
 use Rattle.cs_classes.specs.declared.used.UsedStretch.{UsedStretch}
 
--- the kinds and the classes of a chain
 abbrev pub kinds_in : ClassedChain → List Kind
 kinds_in chain = chain.kinds.items
 
@@ -26,13 +24,13 @@ pub record AreClassed (kinds : day.Tree) (n : ℕ) (listed : List ClassedChain) 
   pub all : map kinds_in listed ≡ chains n
   pub classes : All (λ chain. classes_in chain ≡ map (day.class_in kinds) (kinds_in chain)) listed
 
--- the kinds of n successive days have these classes
+-- n successive days may be of these kinds, whose classes are those named
 pub record HaveClasses (c : Claimed) (n : ℕ) (named : List ℕ) (kinds : List Kind) : Type 0 where
   pub chain : IsChain kinds
   pub long : length kinds ≡ n
   pub classes : map (class_of c) kinds ≡ named
 
--- these are the kinds of a chain in the list that has these classes
+-- some chain of the list has these classes and these kinds
 abbrev pub IsOneOf : List ClassedChain → List ℕ → List Kind → Type 0
 IsOneOf chains named kinds = (chain : ClassedChain) × Contains chains chain
     × (classes_in chain ≡ named) × (kinds_in chain ≡ kinds)
@@ -44,13 +42,13 @@ shown s = record { of = s.of.now; tree = option_map (λ tree. tree_of tree.now) 
 abbrev pub seen : UsedStretch → Stretch
 seen used = record { of = used.of.now; tree = option_map (λ tree. tree_of tree.now) used.tree }
 
--- the splits of a tree, where there is one, are inside their ranges
+-- the splits of the tree, if there is one, are inside their ranges
 abbrev pub AreInside : Option Tree → Type 0
 AreInside None = ⊤
 AreInside (Some tree) = SplitsInside tree 0 1440
 
--- the kinds are of days of the stretch's classes, which are there, and its tree's splits are inside
--- their ranges
+-- successive days may be of these kinds; they have the stretch's classes, which exist; and the
+-- splits of its tree are inside their ranges
 pub record IsInUse (c : Claimed) (n : ℕ) (used : UsedStretch) : Type 0 where
   pub kinds : HaveClasses c n used.of.now used.kinds.items
   pub there : All (λ class. class < length c.classes) used.of.now

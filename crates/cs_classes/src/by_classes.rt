@@ -1,4 +1,3 @@
-//! Chains and stretches by their classes.
 ghost use Rattle.std.specs.Prelude.{◌≡◌, ◌++◌, ◌∷◌, [], ℕ, List, Contains, IfNone, IfOk, IfSome, OnOk, false};
 ghost use Rattle.std.specs.List.{list_any};
 ghost use Rattle.cs_theorem.specs.Faults.{same_list};
@@ -12,10 +11,9 @@ use crate::classed::ClassedChain;
 use indexmap::{IndexMap, IndexSet};
 use std::alloc::{AllocError, Global};
 
-/// Chains by their classes: the first with those classes.
+/// Chains by their classes: for each list of classes the first chain that has it.
 pub(crate) type ByClasses<'a> = IndexMap<&'a [u32], &'a ClassedChain>;
 
-/// A chain that has these classes, if there is one.
 pub(crate) fn chain_with<'a>(chains: &ByClasses<'a>, classes: &[u32]) -> Option<&'a ClassedChain>
     ensures found { (listed : List ClassedChain) → LeadTo listed chains.now
         → IfSome result (λ chain.
@@ -38,7 +36,6 @@ fn add<'a>(chains: &mut ByClasses<'a>, chain: &'a ClassedChain) -> Result<(), Al
     Ok(())
 }
 
-/// These chains by their classes. The only error is out of memory.
 pub(crate) fn by_classes(
     alloc: Global,
     chains: &[ClassedChain],
@@ -52,7 +49,6 @@ pub(crate) fn by_classes(
     Ok(by)
 }
 
-/// The lists of classes that the stretches of a claim have. The only error is out of memory.
 pub(crate) fn class_lists<'a>(
     alloc: Global,
     claim: &Claim<'a>,

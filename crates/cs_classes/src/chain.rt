@@ -1,4 +1,3 @@
-//! The kinds that successive days can have.
 ghost use Rattle.std.specs.Prelude.{◌≡◌, ◌+◌, ◌<◌, ◌≤◌, [], ◌∷◌, ◌++◌, IfOk, OnOk, length, map};
 ghost use Rattle.cs_theorem.specs.Faults.{chains, chains_from};
 ghost use Rattle.cs_classes.specs.Chains.{kinds_of};
@@ -10,7 +9,6 @@ use std::alloc::{AllocError, Global};
 /// The kinds of successive days, at most four, eldest first.
 pub type Chain = ArrayVec<DayKind, 4>;
 
-/// A copy of the kinds.
 pub(crate) fn copy_of(chain: &Chain) -> Chain
     ensures { result.items ≡ chain.now.items }
 {
@@ -21,7 +19,6 @@ pub(crate) fn copy_of(chain: &Chain) -> Chain
     copy
 }
 
-/// The kinds, and one more.
 fn longer(chain: &Chain, kind: DayKind) -> Chain
     requires { length chain.now.items < 4 }
     ensures { result.items ≡ chain.now.items ++ kind ∷ [] }
@@ -31,7 +28,7 @@ fn longer(chain: &Chain, kind: DayKind) -> Chain
     longer
 }
 
-/// Adds the chains of these kinds, then this one, and as many more.
+/// Adds the chains that begin with these kinds, then have this one, then `more` others.
 fn add_chains(
     chains: &mut Vec<Chain>,
     begun: &Chain,
@@ -55,9 +52,8 @@ fn add_chains(
     Ok(())
 }
 
-/// Returns all chains of this many days, in the order of [`all_kinds`]: each kind, followed by each
-/// that can come next, and so on. After 28 February come 29 February and 1 March. The only error is
-/// out of memory.
+/// Returns all chains of this many days, in the order of [`all_kinds`]. After 28 February come 29
+/// February and 1 March. The only error is out of memory.
 pub fn chains(alloc: Global, days: u8) -> Result<Vec<Chain>, AllocError>
     requires { (1 ≤ days) × (days ≤ 4) }
     ensures { IfOk result (λ listed. map kinds_of listed.items ≡ chains days) }

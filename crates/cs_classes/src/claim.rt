@@ -1,4 +1,3 @@
-//! What is judged of a certificate: its own classes and stretches, or those that were worked out.
 ghost use Rattle.std.specs.Prelude.{◌≡◌, length};
 ghost use Rattle.cs_claims.specs.Certificate.{content};
 ghost use Rattle.cs_classes.specs.WorkedOut.{classes_by};
@@ -7,7 +6,7 @@ use crate::working_out::WorkedOut;
 use cs_claims::Certificate;
 use cs_windows::MinuteTree;
 
-/// What is judged of a certificate, borrowed.
+/// What is judged of a certificate: its own classes and stretches, or those that were worked out.
 #[derive(Drop)]
 pub struct Claim<'a> {
     pub(crate) certificate: &'a Certificate,
@@ -16,7 +15,6 @@ pub struct Claim<'a> {
         ≡ length (content certificate.now).classes },
 }
 
-/// A stretch that is judged.
 #[derive(Clone, Copy)]
 pub(crate) struct JudgedStretch<'a> {
     /// The classes of its days, eldest first.

@@ -1,4 +1,3 @@
-//! Making a claim, and reading its parts.
 ghost use Rattle.std.specs.Prelude.{◌≡◌, ◌<◌, Some, length, slice_get};
 ghost use Rattle.cs_claims.specs.Certificate.{content};
 ghost use Rattle.cs_daytree.specs.Tree.{tree_of};
@@ -15,7 +14,7 @@ use cs_daytree::DayTree;
 use cs_plan::Plan;
 use cs_windows::JobReach;
 
-/// Returns the claim of a certificate under a plan, with what was worked out of it.
+/// Returns what is judged of a certificate under a plan, given what was worked out of it.
 pub fn claim_by<'a>(
     plan: &Plan,
     certificate: &'a Certificate,
@@ -56,7 +55,6 @@ impl<'a> Claim<'a> {
         self.certificate.reach()
     }
 
-    /// How many stretches are judged.
     pub(crate) fn count(&self) -> usize
         ensures { result ≡ length (said self.now).stretches }
     {
@@ -66,7 +64,6 @@ impl<'a> Claim<'a> {
         }
     }
 
-    /// The stretch at this place.
     pub(crate) fn stretch(&self, number: usize) -> JudgedStretch<'a>
         requires { number < length (said self.now).stretches }
         ensures value { slice_get (said self.now).stretches number ≡ Some (shown result) }

@@ -1,4 +1,3 @@
-//! The kinds of successive days with their classes.
 ghost use Rattle.std.specs.Prelude.{◌≡◌, ◌≤◌, IfOk, map};
 ghost use Rattle.cs_daytree.specs.Tree.{class_in, tree_of};
 ghost use Rattle.cs_classes.specs.Used.{AreClassed};
@@ -8,7 +7,6 @@ use arrayvec::ArrayVec;
 use cs_daytree::DayTree;
 use std::alloc::{AllocError, Global};
 
-/// Kinds that successive days can have, and the class of each.
 #[derive(Drop)]
 pub(crate) struct ClassedChain {
     pub(crate) kinds: Chain,
@@ -25,7 +23,6 @@ pub(crate) fn classes_of(tree: &DayTree, chain: &Chain) -> ArrayVec<u32, 4>
     classes
 }
 
-/// All chains of this many days with their classes.
 pub(crate) fn classed_chains(
     alloc: Global,
     tree: &DayTree,

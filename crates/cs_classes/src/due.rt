@@ -9,7 +9,6 @@ use cs_claims::{Class, DueList};
 use cs_schedule::MinuteSet;
 use std::alloc::{AllocError, Global};
 
-/// Adds a number, if it is a minute of a day.
 fn add_minute(minutes: &mut MinuteSet, minute: u16)
     ensures has { (m : ℕ) → m < 1440 → has minutes.new m ≡ (nat_eq minute m || has minutes.old m) }
     ensures rising { AreRising minutes.old → AreRising minutes.new }
@@ -19,7 +18,6 @@ fn add_minute(minutes: &mut MinuteSet, minute: u16)
     }
 }
 
-/// Adds those of the numbers that are minutes of a day.
 fn add_minutes(minutes: &mut MinuteSet, listed: &[u16])
     ensures has { (m : ℕ) → m < 1440
         → has minutes.new m ≡ (has minutes.old m || is_listed listed.now m) }
@@ -30,7 +28,6 @@ fn add_minutes(minutes: &mut MinuteSet, listed: &[u16])
     }
 }
 
-/// Adds the minutes that are listed, if they are those of the job.
 fn add_list(minutes: &mut MinuteSet, list: &DueList, job: u16)
     requires { AreRising minutes.old }
     ensures has { (m : ℕ) → m < 1440
@@ -43,7 +40,6 @@ fn add_list(minutes: &mut MinuteSet, list: &DueList, job: u16)
     }
 }
 
-/// The minutes of the day that are listed for a job.
 fn minutes_among(due: &[DueList], job: u16) -> MinuteSet
     ensures has { (m : ℕ) → m < 1440
         → has result m ≡ list_any (λ d. nat_eq d.job job && is_listed d.minutes m) due.now }
@@ -56,7 +52,6 @@ fn minutes_among(due: &[DueList], job: u16) -> MinuteSet
     minutes
 }
 
-/// The due minutes of a job on the days of a class, each once, rising.
 pub(crate) fn due_in_order(class: &Class, job: u16) -> MinuteSet
     ensures due { (m : ℕ) → m < 1440 → has result m ≡ is_due_in class.now job m }
     ensures rising { AreRising result }
@@ -64,14 +59,6 @@ pub(crate) fn due_in_order(class: &Class, job: u16) -> MinuteSet
     minutes_among(class.due.as_slice(), job)
 }
 
-/// Returns the due minutes of a job on the days of a class.
-pub fn due_minutes(class: &Class, job: u16) -> MinuteSet
-    ensures { (m : ℕ) → m < 1440 → has result m ≡ is_due_in class.now job m }
-{
-    due_in_order(class, job)
-}
-
-/// An empty set for each of this many jobs.
 fn empty_sets(alloc: Global, jobs: usize) -> Result<Vec<MinuteSet>, AllocError>
     ensures long { IfOk result (λ sets. length sets.items ≡ jobs) }
     ensures each { IfOk result (λ sets. (j : ℕ) → j < jobs → slice_index_or sets.items j [] ≡ []) }
@@ -83,7 +70,6 @@ fn empty_sets(alloc: Global, jobs: usize) -> Result<Vec<MinuteSet>, AllocError>
     Ok(sets)
 }
 
-/// Adds the minutes that are listed to the set of their job, if it has one.
 fn add_to_job(sets: &mut [MinuteSet], list: &DueList)
     ensures long { length sets.new ≡ length sets.old }
     ensures each { (j m : ℕ) → j < length sets.old → m < 1440
@@ -96,7 +82,6 @@ fn add_to_job(sets: &mut [MinuteSet], list: &DueList)
     }
 }
 
-/// Adds each list to the set of its job.
 fn add_to_jobs(sets: &mut [MinuteSet], due: &[DueList])
     ensures long { length sets.new ≡ length sets.old }
     ensures each { (j m : ℕ) → j < length sets.old → m < 1440

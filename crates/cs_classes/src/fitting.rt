@@ -19,14 +19,12 @@ fn minutes_of(days: u8) -> u32
     u32::from(MINUTES_OF_DAY) * u32::from(days)
 }
 
-/// Whether a window of that length that begins at this minute ends by another.
 fn ends_by(minute: u16, reach: u16, end: u32) -> bool
     ensures { result ≡ nat_le (minute + reach) end }
 {
     u32::from(minute) + u32::from(reach) <= end
 }
 
-/// Whether each window that begins on a day of this kind ends within this many days.
 fn cron_ends_on(schedule: &Schedule, reach: u16, days: u8, kind: DayKind) -> bool
     ensures { result ≡ ends_on (record { begins = is_due schedule.now; lasts = reach }) days kind }
 {
@@ -37,8 +35,8 @@ fn cron_ends_on(schedule: &Schedule, reach: u16, days: u8, kind: DayKind) -> boo
         .all(|minute| ends_by(minute, reach, end))
 }
 
-/// Whether the windows of a cron job end within this many days. Kind by kind, only those that last
-/// longer than the days before the last and a minute are looked for.
+/// A window of at most `days - 1` days and a minute ends in time wherever it begins, so that the
+/// kinds of days are searched only for longer ones.
 fn cron_fits(schedule: &Schedule, reach: u16, days: u8) -> bool
     requires { 1 ≤ days }
     ensures { result ≡ job_fits days (record { begins = is_due schedule.now; lasts = reach }) }
@@ -49,7 +47,6 @@ fn cron_fits(schedule: &Schedule, reach: u16, days: u8) -> bool
     all_kinds().all(|kind| cron_ends_on(schedule, reach, days, kind))
 }
 
-/// Whether the catch-up window that begins at this minute of each day ends within this many days.
 fn catch_up_fits(from: u16, reach: u16, days: u8) -> bool
     ensures { result
         ≡ job_fits days (record { begins = λ kind minute. minute == from; lasts = reach }) }
@@ -60,7 +57,6 @@ fn catch_up_fits(from: u16, reach: u16, days: u8) -> bool
     ends_by(from, reach, minutes_of(days))
 }
 
-/// Whether the windows of a job end within this many days.
 fn fits(job: &Occupied, days: u8) -> bool
     requires { 1 ≤ days }
     ensures { result ≡ job_fits days (job_of job.now) }
@@ -71,7 +67,6 @@ fn fits(job: &Occupied, days: u8) -> bool
     }
 }
 
-/// Whether the windows of all jobs end within this many days.
 fn all_fit(jobs: &[Occupied], days: u8) -> bool
     requires { 1 ≤ days }
     ensures { result ≡ list_all (job_fits days) (map job_of jobs.now) }
@@ -84,9 +79,8 @@ fn all_fit(jobs: &[Occupied], days: u8) -> bool
     true
 }
 
-/// Returns how many days the stretches need by which a plan with these windows is checked: 2, 3 or
-/// 4, the fewest that no window outlasts, counted from the start of the day on which it begins. If
-/// one outlasts four days, 4.
+/// Returns the length of a plan's stretches in days: the least of 2, 3 and 4 that no window
+/// outlasts, counted from the start of the day on which it begins, or 4 if there is none.
 pub fn stretch_length(jobs: &[Occupied]) -> u8
     ensures range { (2 ≤ result) × (result ≤ 4) }
     ensures value { (p : Plan) (on : ℕ → Kind → ℕ → Bool) (c : ℕ → ℕ)

@@ -17,15 +17,16 @@ use std::alloc::{AllocError, Global};
 /// What a class has for the lock of one group on its days.
 #[derive(Clone, Copy, PartialEq, Eq)]
 pub struct GroupDay {
-    /// Whether the bound follows the arrivals at each step within the day: true if no job waits.
+    /// Whether the bound follows the arrivals at each step within the day. True if no job waits.
     pub follows: bool,
-    /// The bound in the last minute plus the arrivals in it, in minutes of runs: 0 if no job waits.
+    /// The bound in the last minute of the day plus the arrivals in it, in minutes of runs. 0 if no
+    /// job waits.
     pub left: u64,
     /// The bound in the first minute of the day, in minutes of runs.
     pub first: u32,
 }
 
-/// What a class has for a group's lock. `none`, [`Backlog::none`], is the bound of unlisted groups.
+/// `none`, [`Backlog::none`], is the bound of unlisted groups.
 fn group_day(plan: &Plan, class: &Class, group: usize, none: &Backlog) -> GroupDay
     requires { none.now ≡ [] }
     ensures { IsGroupDay (as_plan plan.now) class.now group result }
@@ -47,8 +48,8 @@ fn group_day(plan: &Plan, class: &Class, group: usize, none: &Backlog) -> GroupD
     }
 }
 
-/// Returns what a class has for the lock of each group of the plan, by number. The only error is
-/// out of memory.
+/// Returns what a class has for the lock of each group of the plan, by the group's number. The only
+/// error is out of memory.
 pub fn group_days(alloc: Global, plan: &Plan, class: &Class) -> Result<Vec<GroupDay>, AllocError>
     ensures { IfOk result (λ days. AreGroupDays (as_plan plan.now) class.now days.items) }
 {
@@ -60,14 +61,12 @@ pub fn group_days(alloc: Global, plan: &Plan, class: &Class) -> Result<Vec<Group
     Ok(days)
 }
 
-/// Whether the bound of a group follows the arrivals within the eve and at the step over midnight.
 fn leads(eve: &GroupDay, day: &GroupDay) -> bool
     ensures { IsTrue result ↔ Leads eve.now day.now }
 {
     eve.follows && eve.left <= u64::from(day.first) + 1
 }
 
-/// Like `leads`, for each group.
 fn each_leads(eve: &[GroupDay], day: &[GroupDay]) -> bool
     ensures { IsTrue result ↔ ((g : ℕ) → g < length eve.now → g < length day.now
         → Leads (slice_index_or eve.now g no_day) (slice_index_or day.now g no_day)) }
@@ -80,7 +79,7 @@ fn each_leads(eve: &[GroupDay], day: &[GroupDay]) -> bool
     true
 }
 
-/// Checks whether the bounds of each group with a job that waits follow the arrivals, at each step
+/// Checks whether the bound of each group with a job that waits follows the arrivals at each step
 /// of a day of the first class, the last to midnight of a day of the second. Both slices are from
 /// [`group_days`] for one plan.
 pub fn is_steady_over(eve: &[GroupDay], day: &[GroupDay]) -> bool

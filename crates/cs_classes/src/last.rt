@@ -1,4 +1,3 @@
-//! The first day of the calendar that ends days of given classes.
 ghost use Rattle.std.specs.Prelude.{◌≡◌, ◌+◌, ◌<◌, ◌≤◌};
 ghost use Rattle.cs_theorem.specs.Faults.{last_of, same_list};
 ghost use Rattle.cs_classes.specs.Claim.{as_certificate, class_of};
@@ -23,7 +22,6 @@ fn class_on(claim: &Claim<'_>, day: u32) -> u32
     }
 }
 
-/// The classes of this many successive days.
 fn classes_from(claim: &Claim<'_>, first: u32, days: u8) -> ArrayVec<u32, 4>
     requires few { days ≤ 4 }
     requires near { first ≤ 50000 }
@@ -36,7 +34,6 @@ fn classes_from(claim: &Claim<'_>, first: u32, days: u8) -> ArrayVec<u32, 4>
     classes
 }
 
-/// Whether this many successive days have these classes.
 #[tactic(auto, using(crate::proofs::Searched::slices_same))]
 fn have_classes(claim: &Claim<'_>, first: u32, days: u8, classes: &[u32]) -> bool
     requires few { days ≤ 4 }

@@ -6,7 +6,7 @@ ghost use Rattle.cs_classes.specs.StandsFor.{claimed, days_for};
 ghost use Rattle.cs_plan.specs.Plan.{Declared, as_plan};
 
 /// Lemma. The stretches that a certificate of version 3 stands for are those that successive days
-/// have, and list all windows: no fault of stretches or leaves is found in it.
+/// have, and list no windows: no fault of stretches or leaves is found in it.
 pub fn stretches_of_version_3()
     ensures complete { (d : Declared) (c : Content) → c.version ≡ 3
         → stretch_fault (as_certificate (claimed d c)) (days_for d c) ≡ None }

@@ -1,5 +1,4 @@
-//! What the classes and stretches of a certificate stand for: due minutes, windows, waits for a lock,
-//! the stretches that successive days need, and the first two rules by which it is accepted.
+//! Works out what a certificate stands for, and checks its due minutes, stretches and waits.
 #![tactic(auto)]
 
 mod by_classes;
@@ -27,7 +26,6 @@ mod working_out;
 pub use chain::{Chain, chains};
 pub use claim::Claim;
 pub use claiming::claim_by;
-pub use due::due_minutes;
 pub use fitting::stretch_length;
 pub use group_day::{GroupDay, group_days, is_steady_over};
 pub use last::last_day;

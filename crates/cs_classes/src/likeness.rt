@@ -1,4 +1,3 @@
-//! Whether the classes of a certificate have the due minutes of the cron jobs, whatever the day.
 ghost use Rattle.std.specs.Prelude.{◌≡◌, ◌<◌, [], ℕ, IfOk};
 ghost use Rattle.cs_classes.specs.Likeness.{AreTimes, IsRow, is_due_day, is_due_minute, likeness_by};
 ghost use Rattle.cs_plan.specs.Plan.{Declared};
@@ -15,7 +14,7 @@ use std::alloc::{AllocError, Global};
 /// What a class is to a cron job.
 #[derive(Clone, Copy)]
 pub struct Likeness {
-    /// Whether the class has the job's due minutes of the days on which the job is due.
+    /// Whether the class has the minutes at which the job is due on the days on which it is due.
     pub(crate) when_due: bool,
     /// Whether the class has no due minutes for the job, as on the other days.
     pub(crate) when_not: bool,
@@ -40,7 +39,6 @@ fn times_of(line: &Line) -> MinuteSet
     }
 }
 
-/// The due minutes of each cron job on a day on which it is due. The only error is out of memory.
 pub(crate) fn times_of_jobs(alloc: Global, plan: &Plan) -> Result<Vec<MinuteSet>, AllocError>
     ensures { IfOk result (λ times. AreTimes plan.now times.items) }
 {
@@ -51,8 +49,6 @@ pub(crate) fn times_of_jobs(alloc: Global, plan: &Plan) -> Result<Vec<MinuteSet>
     Ok(times)
 }
 
-/// What a class is to a cron job, by the due minutes that it has for the job, those of the days on
-/// which the job is due, and none.
 fn likeness_of(minutes: &MinuteSet, times: &MinuteSet, none: &MinuteSet) -> Likeness
     requires { none.now ≡ [] }
     ensures { result ≡ likeness_by (has minutes.now) (has times.now) }
@@ -63,7 +59,6 @@ fn likeness_of(minutes: &MinuteSet, times: &MinuteSet, none: &MinuteSet) -> Like
     }
 }
 
-/// What a class is to each of the jobs with these due minutes.
 pub(crate) fn row_of(
     alloc: Global,
     class: &Class,

@@ -1,4 +1,3 @@
-//! Which jobs of a plan take and wait for the lock of a group.
 ghost use Rattle.std.specs.Prelude.{◌≡◌, ℕ, ◌&&◌, ◌<◌};
 ghost use Rattle.cs_theorem.specs.Faults.{has_waiter};
 ghost use Rattle.cs_plan.specs.Plan.{as_plan, crons};
@@ -28,7 +27,6 @@ pub(crate) fn cron_job(plan: &Plan, number: usize) -> Job
     plan.jobs()[number]
 }
 
-/// Whether a cron job waits for the lock of the group.
 pub(crate) fn has_waiter(plan: &Plan, group: usize) -> bool
     ensures { result ≡ has_waiter (as_plan plan.now) group }
 {

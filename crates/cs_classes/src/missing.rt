@@ -1,4 +1,3 @@
-//! The first stretch of successive days that a certificate lacks.
 ghost use Rattle.std.specs.Prelude.{◌≡◌, ◌≤◌, IfOk, option_map};
 ghost use Rattle.cs_theorem.specs.Faults.{stretch_fault};
 ghost use Rattle.cs_classes.specs.Claim.{as_certificate};

@@ -11,7 +11,6 @@ use cs_schedule::Schedule;
 use cs_windows::Occupied;
 use std::alloc::{AllocError, Global};
 
-/// The length of a window of this cron job.
 fn cron_reach(reaches: &[JobReach], number: usize, job: Job) -> u16
     ensures { result ≡ cron_reach reaches.now number job }
 {
@@ -21,7 +20,6 @@ fn cron_reach(reaches: &[JobReach], number: usize, job: Job) -> u16
     job.max()
 }
 
-/// The schedule of the job with this number, if it is of the crontab.
 fn schedule_of(plan: &Plan, number: usize) -> Option<&Schedule>
     ensures cron { IfSome result (λ schedule. IsSchedule plan.now number schedule.now) }
     ensures other { result ≡ None → crons plan.now ≤ number }
@@ -32,7 +30,6 @@ fn schedule_of(plan: &Plan, number: usize) -> Option<&Schedule>
     }
 }
 
-/// What a job of the plan occupies.
 fn occupied_by<'a>(plan: &'a Plan, reaches: &[JobReach], number: usize, job: Job) -> Occupied<'a>
     requires { slice_get plan.now.jobs number ≡ Some job }
     ensures { job_of result ≡ planned_job plan.now reaches.now number }
@@ -50,7 +47,7 @@ fn occupied_by<'a>(plan: &'a Plan, reaches: &[JobReach], number: usize, job: Job
 }
 
 /// Returns what the jobs of a plan occupy, by number. A cron job's windows last its declared time,
-/// or if it waits its reach, if one is listed. An anacron job's catch-up window lasts from the
+/// or if it waits the reach that is listed for it, if any. An anacron job's window lasts from the
 /// start of the catch-up hours to the end of a run that starts in their last minute. The only error
 /// is out of memory.
 pub fn occupied<'a>(

@@ -1,4 +1,3 @@
-//! Whether the claimed bounds are zero within a job's reach.
 ghost use Rattle.std.specs.Prelude.{◌≡◌, ◌≤◌, ◌<◌, ◌↔◌, All, [], IsTrue, length, map, take, unwrap_or};
 ghost use Rattle.cs_claims.specs.Certificate.{bound_in};
 ghost use Rattle.cs_plan.specs.Plan.{as_plan, crons};
@@ -22,7 +21,7 @@ pub fn waits(plan: &Plan, number: usize) -> bool
     cron_job(plan, number).mode().waits()
 }
 
-/// The group of a cron job, or the first if it has none.
+/// A job that waits has a group; one without gets the first here.
 fn group_of(plan: &Plan, number: usize) -> usize
     requires { number < crons plan.now }
     ensures value { result ≡ unwrap_or ((as_plan plan.now).group number) 0 }
@@ -34,7 +33,7 @@ fn group_of(plan: &Plan, number: usize) -> usize
     }
 }
 
-/// The bounds of a group on successive days, and none after them.
+/// The bounds of a group on successive days, filled up with `none` to four.
 fn bounds_of<'a>(days: &[&'a Class], group: usize, none: &'a Backlog) -> [&'a Backlog; 4]
     requires few { length days.now ≤ 4 }
     requires none { none.now ≡ [] }
@@ -49,7 +48,6 @@ fn bounds_of<'a>(days: &[&'a Class], group: usize, none: &'a Backlog) -> [&'a Ba
     bounds
 }
 
-/// Whether the bound is zero within the reach of each minute.
 fn clears_each(bounds: &[&Backlog], minutes: &MinuteSet, reach: u16) -> bool
     ensures { IsTrue result
         ↔ All (λ m. ClearsBy (map (λ b. at b.now) bounds.now) m reach) minutes.now }
@@ -64,8 +62,8 @@ fn clears_each(bounds: &[&Backlog], minutes: &MinuteSet, reach: u16) -> bool
 
 /// Checks whether after each due minute of a cron job on the first of successive days the bound of
 /// its group is zero at some minute within the reach, so that all that waited has had the lock by
-/// then. Minutes past the last day are ignored. `none` is the bound of groups that aren't listed,
-/// [`Backlog::none`].
+/// then. Minutes past the last day are ignored. `none`, [`Backlog::none`], is the bound of unlisted
+/// groups.
 pub fn clears<'a>(
     plan: &Plan,
     number: usize,

@@ -1,5 +1,3 @@
-//! Arrivals for the locks of the groups, and the first step from one day to the next at which a
-//! bound doesn't follow them.
 ghost use Rattle.std.specs.Prelude.{◌≡◌, ◌≤◌, ◌<◌, ◌+◌, ◌*◌, ◌^◌, ℕ, [], IfOk, if◌then◌else◌, length, slice_index};
 ghost use Rattle.cs_claims.specs.Certificate.{pieces_of};
 ghost use Rattle.cs_claims.specs.declared.class.Class.{Class};
@@ -18,7 +16,6 @@ use cs_schedule::MinuteSet;
 use cs_wait::{Arrivals, Backlog, step_ok};
 use std::alloc::{AllocError, Global};
 
-/// Adds a job at each of these minutes.
 fn add_job(arrivals: &mut Arrivals, minutes: &MinuteSet, max: u16)
     requires rising { AreRising minutes.now }
     requires long { length arrivals.old ≡ 1440 }
@@ -33,7 +30,6 @@ fn add_job(arrivals: &mut Arrivals, minutes: &MinuteSet, max: u16)
     }
 }
 
-/// Adds a job that is due on a day of a class, if it takes the lock of the group.
 fn add_locker(arrivals: &mut Arrivals, plan: &Plan, class: &Class, group: usize, number: usize)
     requires cron { number < crons plan.now }
     requires long { length arrivals.old ≡ 1440 }
@@ -50,7 +46,6 @@ fn add_locker(arrivals: &mut Arrivals, plan: &Plan, class: &Class, group: usize,
     }
 }
 
-/// The arrivals for a group's lock on a day of a class.
 pub(crate) fn arrivals_in(plan: &Plan, class: &Class, group: usize) -> Arrivals
     ensures long { length result ≡ 1440 }
     ensures each { (m : ℕ) → m < 1440
@@ -63,7 +58,6 @@ pub(crate) fn arrivals_in(plan: &Plan, class: &Class, group: usize) -> Arrivals
     arrivals
 }
 
-/// The first bound listed for a group, or the other if there is none.
 fn backlog_among<'a>(backlog: &'a [GroupBacklog], group: usize, none: &'a Backlog) -> &'a Backlog
     requires { none.now ≡ [] }
     ensures { result.now ≡ pieces_of backlog.now group }
@@ -76,7 +70,6 @@ fn backlog_among<'a>(backlog: &'a [GroupBacklog], group: usize, none: &'a Backlo
     none
 }
 
-/// The bound of a group on the days of a class, or `none` if the group isn't listed.
 pub(crate) fn backlog_of<'a>(class: &'a Class, group: usize, none: &'a Backlog) -> &'a Backlog
     requires { none.now ≡ [] }
     ensures { result.now ≡ pieces_of class.now.backlog group }
@@ -92,7 +85,6 @@ pub(crate) struct Work<'a> {
     day: &'a Backlog,
 }
 
-/// What is known of a group: nothing if no job waits for its lock.
 fn work_of<'a>(
     plan: &Plan,
     eve: &'a Class,
@@ -113,7 +105,6 @@ fn work_of<'a>(
     })
 }
 
-/// What is known of each group.
 fn works<'a>(
     alloc: Global,
     plan: &Plan,
@@ -131,7 +122,6 @@ fn works<'a>(
     Ok(works)
 }
 
-/// The minute and the group, if its bound doesn't follow the arrivals at that minute of the eve.
 fn rise_of(work: &Option<Work<'_>>, minute: u16, group: usize) -> Option<(u16, usize)>
     requires { minute < MINUTES_OF_DAY }
     ensures { (p : TheoryPlan) (eve day : Class) → IsWork p eve day group work.now
@@ -149,7 +139,6 @@ fn rise_of(work: &Option<Work<'_>>, minute: u16, group: usize) -> Option<(u16, u
     }
 }
 
-/// The first group whose bound doesn't follow the arrivals at a minute of the eve.
 fn rise_at(works: &[Option<Work<'_>>], minute: u16) -> Option<(u16, usize)>
     requires { minute < MINUTES_OF_DAY }
     ensures { (p : TheoryPlan) (eve day : Class) → AreWorks p eve day works.now

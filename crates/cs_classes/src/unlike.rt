@@ -1,4 +1,3 @@
-//! Whether each class of a certificate has the due minutes of its kinds of days.
 ghost use Rattle.std.specs.Prelude.{◌≡◌, IfOk, option_map};
 ghost use Rattle.cs_theorem.specs.Faults.{ClassNotDue, due_fault, is_due_alike};
 ghost use Rattle.cs_classes.specs.Likeness.{AreLikenesses, is_due_day, likeness_on};
@@ -15,7 +14,6 @@ use cs_crontab::Line;
 use cs_plan::Plan;
 use std::alloc::{AllocError, Global};
 
-/// Whether a class has a cron job's due minutes on days of this kind, by what it is to the job.
 fn is_job_alike(likeness: Likeness, line: &Line, kind: DayKind) -> bool
     ensures { result ≡ likeness_on likeness (is_due_day line.now.when kind) }
 {
@@ -26,7 +24,6 @@ fn is_job_alike(likeness: Likeness, line: &Line, kind: DayKind) -> bool
     }
 }
 
-/// Whether the class of this kind has the due minutes of each cron job, by the rows of the classes.
 fn is_alike(plan: &Plan, claim: &Claim<'_>, rows: &[Sequence<Likeness>], kind: DayKind) -> bool
     requires { AreLikenesses plan.now (said claim.now) rows.now }
     ensures { result
@@ -42,8 +39,6 @@ fn is_alike(plan: &Plan, claim: &Claim<'_>, rows: &[Sequence<Likeness>], kind: D
     true
 }
 
-/// The first kind of day, in the order of [`all_kinds`], whose class doesn't have the due minutes
-/// of each cron job, by the rows of the classes.
 fn first_by_rows(plan: &Plan, claim: &Claim<'_>, rows: &[Sequence<Likeness>]) -> Option<DayKind>
     requires { AreLikenesses plan.now (said claim.now) rows.now }
     ensures { option_map ClassNotDue result

@@ -1,4 +1,3 @@
-//! The stretches of a certificate that successive days have, and one that they have and it lacks.
 ghost use Rattle.std.specs.Prelude.{◌≡◌, ◌≤◌, All, IfNone, IfOk, IfSome, List, false, map};
 ghost use Rattle.std.specs.List.{list_any};
 ghost use Rattle.cs_theorem.specs.Faults.{used_stretches};
@@ -15,7 +14,7 @@ use crate::classed::classed_chains;
 use cs_windows::MinuteTree;
 use std::alloc::{AllocError, Global};
 
-/// A stretch of a certificate that successive days have.
+/// A stretch of a certificate whose classes some successive days have.
 #[derive(Drop)]
 pub struct UsedStretch<'a> {
     /// The classes of its days, eldest first.
@@ -28,7 +27,6 @@ pub struct UsedStretch<'a> {
     pub kinds: Chain,
 }
 
-/// The stretch, if it has the classes of one of these chains.
 fn used_by<'a>(chains: &ByClasses<'_>, stretch: JudgedStretch<'a>) -> Option<UsedStretch<'a>>
     ensures used { (listed : List ClassedChain) → LeadTo listed chains.now
         → IfSome result (λ u. (seen u ≡ shown stretch.entry)
@@ -44,8 +42,8 @@ fn used_by<'a>(chains: &ByClasses<'_>, stretch: JudgedStretch<'a>) -> Option<Use
     })
 }
 
-/// Returns the stretches of this many days that successive days have, in the certificate's order.
-/// The only error is out of memory.
+/// Returns the stretches of this many days whose classes some successive days have, in the
+/// certificate's order. The only error is out of memory.
 pub fn used_stretches<'a>(
     alloc: Global,
     claim: &Claim<'a>,

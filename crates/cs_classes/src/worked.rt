@@ -1,4 +1,3 @@
-//! What a class of version 3 stands for on days of a kind.
 ghost use Rattle.std.specs.Prelude.{◌≡◌, ◌≤◌, ◌<◌, ◌++◌, [], Some, IfOk, OnOk, filter, map};
 ghost use Rattle.cs_claims.specs.Certificate.{bound_in};
 ghost use Rattle.cs_classes.specs.Planned.{is_due_on};
@@ -15,7 +14,6 @@ use cs_schedule::MinuteSet;
 use cs_wait::{Backlog, MAX_BACKLOG};
 use std::alloc::{AllocError, Global};
 
-/// The minutes at which a command is due on days of a kind.
 fn minutes_on(line: &Line, kind: DayKind) -> MinuteSet
     ensures { result ≡ filter (is_due_on line.now.when kind) day_minutes }
 {
@@ -25,7 +23,6 @@ fn minutes_on(line: &Line, kind: DayKind) -> MinuteSet
     }
 }
 
-/// The minutes of a set, rising.
 fn listed(alloc: Global, minutes: &MinuteSet) -> Result<Sequence<u16>, AllocError>
     ensures { IfOk result (λ listed. listed ≡ minutes.now) }
 {
@@ -36,7 +33,6 @@ fn listed(alloc: Global, minutes: &MinuteSet) -> Result<Sequence<u16>, AllocErro
     Ok(listed)
 }
 
-/// Adds a list of the minutes for a job, if there are any.
 fn add_list(
     alloc: Global,
     due: &mut Sequence<DueList>,
@@ -52,7 +48,6 @@ fn add_list(
     due.push(DueList { job, minutes })
 }
 
-/// When each cron job is due on days of a kind.
 fn due_on(alloc: Global, plan: &Plan, kind: DayKind) -> Result<Sequence<DueList>, AllocError>
     ensures { IfOk result (λ due. due ≡ due_of plan.now (Some kind)) }
 {
@@ -63,7 +58,7 @@ fn due_on(alloc: Global, plan: &Plan, kind: DayKind) -> Result<Sequence<DueList>
     Ok(due)
 }
 
-/// Such a day, without bounds: nothing is due without a kind.
+/// A day of that kind, without bounds. Nothing is due without a kind.
 fn unbounded(alloc: Global, plan: &Plan, kind: Option<DayKind>) -> Result<Class, AllocError>
     ensures { IfOk result (λ day. day ≡ unbounded plan.now kind) }
 {
@@ -77,7 +72,6 @@ fn unbounded(alloc: Global, plan: &Plan, kind: Option<DayKind>) -> Result<Class,
     })
 }
 
-/// The bound of a class for a group at minute 0.
 fn left_over(class: &Class, group: usize, none: &Backlog) -> u32
     requires { none.now ≡ [] }
     ensures value { result ≡ bound_in class.now group 0 }
@@ -88,7 +82,6 @@ fn left_over(class: &Class, group: usize, none: &Backlog) -> u32
     backlog.at(0)
 }
 
-/// The bound of a group on such a day: it begins with what is left over, and follows the arrivals.
 fn bound_on(
     alloc: Global,
     plan: &Plan,
@@ -108,7 +101,6 @@ fn bound_on(
     })
 }
 
-/// The bound of each group with a job that waits, from that of the class at minute 0.
 fn bounds_on(
     alloc: Global,
     plan: &Plan,

@@ -1,4 +1,3 @@
-//! Who goes through the classes of a certificate: one thread, or several.
 ghost use denote.Param.Send.{IsSync};
 ghost use Rattle.std.specs.Prelude.{◌≡◌, ◌<◌, IfOk, length, map, ⊤};
 ghost use Rattle.cs_claims.specs.Certificate.{content};
@@ -22,7 +21,7 @@ use std::thread::Threads;
 /// The fewest rows that are worth a thread.
 const LEAST_ROWS: usize = 8;
 
-/// Goes through the classes of a certificate.
+/// Goes through the classes of a certificate, in one thread or in several.
 pub trait Workers {
     // Holds where they may work.
     ghost can_work: { Self → Type 0 };
@@ -37,8 +36,8 @@ pub trait Workers {
         requires { can_work self.now }
         ensures { IfOk result (λ rows. AreLikenesses plan.now (said claim.now) rows.items) };
 
-    /// The classes, by number, each on days of the first kind that has it. The only error is out of
-    /// memory.
+    /// What each class stands for on days of the first kind that has it, by number. The only error
+    /// is out of memory.
     fn classes_worked_out(
         &self,
         alloc: Global,

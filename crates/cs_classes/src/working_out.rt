@@ -1,4 +1,3 @@
-//! What a certificate of version 3 stands for, worked out from the plan.
 ghost use Rattle.std.specs.Prelude.{◌≡◌, ◌<◌, IfOk, length, map};
 ghost use Rattle.cs_claims.specs.Certificate.{content};
 ghost use Rattle.cs_classes.specs.Used.{classes_in};
@@ -26,14 +25,12 @@ pub struct WorkedOut {
     pub stretches: Vec<Sequence<u32>>,
 }
 
-/// A kind of day and its class.
 #[derive(Clone, Copy)]
 pub(crate) struct ClassedKind {
     kind: DayKind,
     class: u32,
 }
 
-/// Each kind of day with its class, in the order of [`all_kinds`].
 pub(crate) fn classed_kinds(
     alloc: Global,
     certificate: &Certificate,
@@ -60,7 +57,6 @@ fn first_kind(kinds: &[ClassedKind], class: u32) -> Option<DayKind>
     None
 }
 
-/// The class with this number, on days of the first kind that has it.
 pub(crate) fn class_of_number(
     alloc: Global,
     plan: &Plan,
@@ -77,7 +73,6 @@ pub(crate) fn class_of_number(
     worked_class(alloc, plan, kind, class)
 }
 
-/// The different lists of classes that the chains have, in order of their first place.
 fn distinct_lists(alloc: Global, chains: &[ClassedChain]) -> Result<IndexSet<&[u32]>, AllocError>
     ensures { IfOk result (λ lists.
         map (λ list. list.now) lists.keys ≡ distinct (map classes_in chains.now)) }
@@ -89,7 +84,6 @@ fn distinct_lists(alloc: Global, chains: &[ClassedChain]) -> Result<IndexSet<&[u
     Ok(lists)
 }
 
-/// A copy of these lists of classes.
 fn copies_of(alloc: Global, lists: &IndexSet<&[u32]>) -> Result<Vec<Sequence<u32>>, AllocError>
     ensures { IfOk result (λ copies. copies.items ≡ map (λ list. list.now) lists.now.keys) }
 {
@@ -100,7 +94,6 @@ fn copies_of(alloc: Global, lists: &IndexSet<&[u32]>) -> Result<Vec<Sequence<u32
     Ok(copies)
 }
 
-/// The classes that successive days have, in the order of the kinds that first have them.
 fn stretches_of_kinds(
     alloc: Global,
     plan: &Plan,
@@ -116,7 +109,6 @@ fn stretches_of_kinds(
     copies_of(alloc, &lists)
 }
 
-/// What a certificate of version 3 stands for, with these classes.
 fn worked_out(
     alloc: Global,
     plan: &Plan,
@@ -131,7 +123,7 @@ fn worked_out(
 }
 
 /// Returns what a certificate of version 3 stands for under a plan, or nothing for the other
-/// versions, which say it themselves. The only error is out of memory.
+/// versions, which list it themselves. The only error is out of memory.
 pub fn work_out<W: Workers>(
     workers: &W,
     alloc: Global,

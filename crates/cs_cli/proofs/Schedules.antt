@@ -66,7 +66,6 @@ both_gave : {X Y : Type 0} (first : Failed → Failed → Result X Trouble → T
 both_gave first next before after y (inl (t, stop, e)) = absurd (cc)
 both_gave first next before after y (inr (x, one, two)) = record { value = x; one = one; two = two }
 
--- one result gives one value
 same_value : {X : Type 0} (r : Result X Trouble) (x y : X) → r ≡ Ok x → r ≡ Ok y → x ≡ y
 same_value r x y e f = cc
 
@@ -202,7 +201,6 @@ unsafe_found outcome.Unsafe e = refl
 unsafe_found outcome.Unknown e = absurd (cc)
 unsafe_found outcome.NoMemory e = absurd (cc)
 
--- what isn't known has status 2 or 5
 unknown_status : (reason : Reason) → 2 ≤ outcome_status (unknown_outcome reason)
 unknown_status TooManyClasses = omega arith
 unknown_status LeafTooLong = omega arith
@@ -223,7 +221,6 @@ record IsAnswered (wanted : Wanted) (given : Given) (ending : Ending) : Type 0 w
   places : List Place
   judged : IsJudged wanted plan places ending
 
--- a fault of a file ends a call with status 3 or 6
 troubled : (t : Trouble) → trouble_status t ≢ 3 → trouble_status t ≢ 6 → ⊥
 troubled (InWords fault) three six = three refl
 troubled (Unread path reason) three six = six refl
@@ -248,7 +245,6 @@ answered wanted files a w before after ending given hold (inr (x, (kept, read), 
   judged = judged;
 }
 
--- the same with its status as a number
 answered_with : (n : ℕ) → n < 3 → (wanted : Wanted) (files : List ℕ → Option (List ℕ)) (a : AskedJudge) (w : List ℕ) (before after : Failed) (ending : Ending) (given : Given)
     → Hold files a.table a.anacrontab a.declarations given → AnswersWanted wanted a files w before after ending → ending.status ≡ n
     → (k : IsAnswered wanted given ending) × (outcome_status k.judged.found ≡ n)

@@ -1,4 +1,4 @@
--- What is answered to `judge` and to `make`: how the tables stand as they are declared.
+-- The answers to `judge` and to `make`: how the tables stand as they are declared.
 use Rattle.std.specs.Prelude.{◌≡◌, ℕ, Bool, true, false, List, [], ◌++◌, Option, Some, None}
 use Rattle.cs_plan.specs.Plan.{Declared}
 use Rattle.cs_judge.specs.Answer.{IsAnswer}
@@ -18,15 +18,14 @@ use Rattle.cs_files.specs.Asked.{Answers, FindsPlan}
 use Rattle.cs_place.specs.declared.places.Place.{Place}
 use Rattle.cs_ruling.specs.Check.{fault_places}
 
--- the status of a call by how the plan was found
 abbrev pub outcome_status : Outcome → ℕ
 outcome_status outcome.Safe = 0
 outcome_status outcome.Unsafe = 1
 outcome_status outcome.Unknown = 2
 outcome_status outcome.NoMemory = 5
 
--- the notes on a refusal after `unknown`: the places of the lines that it names, after which more
--- may stand, on the jobs that take a lock
+-- the notes on a refusal after `unknown`: the places of the lines that it names, and perhaps notes
+-- on the jobs that take a lock
 abbrev pub AreRefusalNotes : Declared → List Place → Judged → List ℕ → Type 0
 AreRefusalNotes plan places (Safe checked) notes = notes ≡ []
 AreRefusalNotes plan places (Unsafe script shown breach) notes = notes ≡ []
@@ -34,7 +33,7 @@ AreRefusalNotes plan places (Unknown reason None) notes = notes ≡ []
 AreRefusalNotes plan places (Unknown reason (Some fault)) notes =
     (more : List ℕ) × (notes ≡ fault_places plan places (told fault) ++ more)
 
--- what is known of a plan is printed, beside the notes on it, and the status is by how it was found
+-- what is known of a plan is printed, with the notes on it, and the status is by how it was found
 pub record IsJudged (wanted : Wanted) (plan : Declared) (places : List Place) (ending : Ending)
     : Type 0 where
   pub judged : Judged
@@ -46,7 +45,7 @@ pub record IsJudged (wanted : Wanted) (plan : Declared) (places : List Place) (e
   pub refused : AreRefusalNotes plan places judged notes
   pub err : ending.err ≡ plan_notes plan ++ notes
 
--- what is answered where this is wanted: how the plan was found, or the first fault of a file, and no
+-- the answer where this is wanted: how the plan was found, or the first fault of a file, and no
 -- file is read before its own turn
 abbrev pub AnswersWanted : Wanted → AskedJudge → (List ℕ → Option (List ℕ)) → List ℕ → Failed → Failed
     → Ending → Type 0

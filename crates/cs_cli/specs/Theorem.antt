@@ -57,8 +57,8 @@ abbrev pub DenoteJobs : Option (List ℕ) → JobTable → Type 0
 DenoteJobs None jobs = jobs ≡ no_jobs
 DenoteJobs (Some bytes) jobs = MeansJobs bytes (Ok jobs)
 
--- what is given denotes two tables and declarations, which join to this plan; and no entry has other
--- parts than the place of its line has
+-- what is given denotes two tables and declarations, which join to this plan; and no entry has
+-- other parts than the place of its line has
 pub record DenotesPlan (given : Given) (plan : Declared) : Type 0 where
   pub crontab : Table
   pub is_crontab : Means given.crontab (Ok crontab)

@@ -14,7 +14,6 @@ use cs_ruling::{fault_takers, push_fault_places};
 use std::alloc::{AllocError, Global};
 use std::thread::Threads;
 
-/// The status that a call ends with where the plan is found so.
 fn status_for(outcome: Outcome) -> Status
     ensures { status_of result ≡ outcome_status outcome }
 {
@@ -26,8 +25,6 @@ fn status_for(outcome: Outcome) -> Status
     }
 }
 
-/// The notes on a refusal: the places of the lines that it names, and the jobs that it concerns
-/// without their names.
 fn refusal_notes(
     alloc: Global,
     plan: &Plan,
@@ -44,7 +41,6 @@ fn refusal_notes(
     Ok(notes)
 }
 
-/// The notes on a plan, and on a refusal.
 fn judged_notes(
     alloc: Global,
     plan: &Plan,
@@ -60,8 +56,7 @@ fn judged_notes(
     Ok(Bytes::from_vec(notes))
 }
 
-/// Answers what is wanted of a plan: a verdict, or what `make` prints. The only error is want of
-/// memory.
+/// Answers what is asked of a plan: a verdict, or what `make` prints.
 pub fn answer_judge<R: Threads + Sync>(
     rt: &R,
     alloc: Global,
@@ -77,7 +72,7 @@ pub fn answer_judge<R: Threads + Sync>(
     Ok(Response::told(status_for(outcome), text, notes))
 }
 
-/// What `make` prints of a plan that is safe.
+/// Returns what `make` prints of a plan that is safe.
 pub fn wanted_of(compact: bool) -> Wanted
     ensures { result ≡ wanted_of compact }
 {

@@ -9,7 +9,7 @@ one_more : (most : ℕ) (asked : Bool × Bool) (text rest : List ℕ) → behind
 unfolding asked_in
 one_more most asked text rest is = rw is refl
 
--- .. of so many, where one more is
+-- one of so many more
 pub next_asked : (most i : ℕ) (asked more : Bool × Bool) (text rest : List ℕ) (last : Bool × Bool) → i < most → behind_option text ≡ Some rest → more ≡ with_option asked (first_word text)
     → asked_in (most - i) asked text ≡ last → asked_in (most - (i + 1)) more rest ≡ last
 next_asked most i asked more text rest last low is new before =

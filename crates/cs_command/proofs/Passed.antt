@@ -1,4 +1,4 @@
--- What is passed over, one after another.
+-- What is passed, one after another.
 use Rattle.std.proofs.Common.{◌≡◌, ℕ, suc, ◌+◌, ◌-◌, ◌<◌, List, refl, arith}
 use Rattle.std.specs.Prelude.{Option, Some}
 use Rattle.cs_command.specs.Words.{passed}
@@ -8,7 +8,7 @@ one_more : (behind : List ℕ → Option (List ℕ)) (most : ℕ) (text rest : L
 unfolding passed
 one_more behind most text rest is = rw is refl
 
--- .. of so many, where one more is
+-- one of so many more
 pub next_passed : (behind : List ℕ → Option (List ℕ)) (most i : ℕ) (text rest last : List ℕ) → i < most → behind text ≡ Some rest
     → passed behind (most - i) text ≡ last → passed behind (most - (i + 1)) rest ≡ last
 next_passed behind most i text rest last low is before =

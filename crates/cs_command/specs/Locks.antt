@@ -1,5 +1,5 @@
--- Which lock a command holds as long as it runs: that of a plain call of flock(1), such as
--- `A=b [ -x /bin/c ] && nice -n 5 flock -n /run/d c --all "e f" >>/var/log/c 2>&1`.
+-- Which lock a command holds while it runs: that of a plain call of flock(1), such as `A=b [ -x
+-- /bin/c ] && nice -n 5 flock -n /run/d c --all "e f" >>/var/log/c 2>&1`.
 use Rattle.std.specs.Prelude.{ℕ, List, [], ◌∷◌, ◌++◌, drop, codes, Option, None, Some, is_none, Bool, not, ◌&&◌, ◌||◌, ◌==◌, if◌then◌else◌, zero, suc, length, bytes_eq, count_by, is_some, option_map, unwrap_or, true, false, ◌≡◌}
 use Rattle.std.specs.List.{slice_split, starts_with}
 use Rattle.cs_table.specs.SettingReading.{◌>>=◌}
@@ -12,13 +12,13 @@ use Rattle.cs_command.specs.declared.named.Kind.TheVariants.{Locks, Leaves}
 use Rattle.cs_command.specs.declared.lock.Lock.{Lock}
 use Rattle.cs_command.specs.declared.lock.Lock.TheVariants.{Absent, Of, Unread}
 
--- ---- the path of a lock file: which file it is, and how often it stands in a text
+-- ---- the path of a lock file: which file it is, and how often it is in a text
 
 abbrev pub is_below : List ℕ → List ℕ → Bool
 is_below folder path = starts_with (λ a b. a == b) path folder
 
--- Only before its first slash a part of the path has no name or doesn't lead on, and it isn't below
--- /proc or /dev, where it may be another file for each process.
+-- An absolute path without an empty part, `.` or `..`. Below /proc or /dev each process may have
+-- another file.
 unfoldable pub is_file : List ℕ → Bool
 is_file path = is_below (codes "/") path && (count_by (is_among ([] ∷ codes "." ∷ codes ".." ∷ []))
     (slice_split (λ b. b == 47) path) == 1
@@ -33,12 +33,12 @@ unfoldable pub real_path : List ℕ → List ℕ
 real_path path = if is_below (codes "/var/lock/") path then codes "/run" ++ behind_var path
     else behind_var path
 
--- what all spellings of a path have
+-- the end that all spellings of a path have
 unfoldable pub common_path : List ℕ → List ℕ
 common_path path = if is_below (codes "/run/lock/") (behind_var path) then drop 4 (behind_var path)
     else behind_var path
 
--- behind the first byte of the first place of a text in another one
+-- after the first byte of the first place of a text in another one
 unfoldable pub behind_place : List ℕ → List ℕ → Option (List ℕ)
 behind_place part [] = None
 behind_place part (byte ∷ bytes) =
@@ -68,8 +68,8 @@ behind_option text =
     || (is_exclusive (first_word text) || is_at_once (first_word text))
     then Some (behind_word text) else None
 
--- whether the lock is shared, and given up at once, with an option more; of -s and -x the last
--- counts
+-- Whether the lock is shared, and given up at once, with one more option. The last of -s and -x
+-- counts.
 abbrev pub with_option : Bool × Bool → List ℕ → Bool × Bool
 with_option asked option =
     if is_shared option then (true, asked.1)
@@ -87,7 +87,7 @@ mode_of asked = if asked.0 && asked.1 then None
 
 -- ---- the program
 
--- behind `<`, `>`, `>>`, `2>` or `2>>`, and nothing without it
+-- after `<`, `>`, `>>`, `2>` or `2>>`; empty without it
 unfoldable pub behind_sign : List ℕ → List ℕ
 behind_sign text =
     if is_below (codes "2>>") text then drop 3 text
@@ -105,39 +105,39 @@ unfoldable pub is_program : List ℕ → Bool
 is_program text = not (begins_with 45 text) && (is_some (word_at text)
     && is_nothing (behind_all behind_redirection (behind_all behind_one text)))
 
--- .. or `-c` and one word
+-- after `-c`, if it is there
 unfoldable pub behind_c : List ℕ → List ℕ
 behind_c text =
     if is_one_of (codes "-c --command") (first_word text) then behind_word text else text
 
--- The path of a file and a program that keeps the lock: nothing else locks a file or may leave the
--- lock, and the path stands nowhere else.
+-- An absolute path, and a program that keeps the lock to its end: nothing else locks a file or may
+-- leave the lock, and the path is nowhere else in the text.
 unfoldable pub is_held : List ℕ → List ℕ × List ℕ → Bool
 is_held text word = is_file word.0 && (is_program (behind_c word.1) && (count_of Leaves word.1 == 0
     && (count_of Locks text == 1 && has_one_place (common_path word.0) text)))
 
--- the file and the mode of a call in a text, and what is behind the file, from its options on
+-- the file and the mode of a call, and what follows the file; the text begins with the options
 abbrev pub called : List ℕ → List ℕ → Option ((List ℕ × Mode) × List ℕ)
 called text rest = word_at (behind_all behind_option rest) >>= λ word.
     if is_held text word then option_map (λ mode. ((word.0, mode), word.1))
     (mode_of (asked_in (length rest) (false, false) rest)) else None
 
--- The lock of a plain call, and what is behind its path.
+-- the file and the mode of a plain call, and what follows the file
 unfoldable pub call_in : List ℕ → Option ((List ℕ × Mode) × List ℕ)
 call_in text = if is_one_of (codes "flock /bin/flock /usr/bin/flock")
     (first_word (behind_all behind_front text))
     then called text (behind_word (behind_all behind_front text)) else None
 
--- what the shell is given, where the command has no input (crontab(5))
+-- what the shell gets, if the command has no input (crontab(5))
 abbrev pub alone : List ℕ × Option (List ℕ) → Option (List ℕ)
 alone parts = if is_none parts.1 then Some parts.0 else None
 
--- the file and the mode of the lock that a command holds as long as it runs
+-- the file and the mode of the lock that a command holds while it runs
 abbrev pub lock_of : List ℕ → Option (List ℕ × Mode)
 lock_of command = option_map (λ call. (real_path call.0.0, call.0.1))
     (alone (parts_from (pieces_of command)) >>= call_in)
 
--- the answer: the lock that it holds; or none, and whether it names a program that locks files
+-- the command's lock; without one, whether the command names a program that locks files
 abbrev pub IsLock : List ℕ → Lock → Type 0
 IsLock command Absent = (names_lock command ≡ false) × (lock_of command ≡ None)
 IsLock command (Of file mode) = lock_of command ≡ Some (file, mode)

@@ -1,5 +1,5 @@
--- The words of a command that stand for themselves, for a shell (sh(1)) and for what it runs; and
--- the programs that a text names, whatever a shell makes of it.
+-- The words of a command that a shell (sh(1)) takes literally; and the programs that a text names,
+-- whatever a shell makes of it.
 use Rattle.std.specs.Prelude.{ℕ, zero, suc, List, [], ◌∷◌, ◌++◌, length, codes, bytes_eq, count_by, Option, None, Some, option_map, unwrap_or, Bool, false, not, ◌&&◌, ◌||◌, ◌==◌, if◌then◌else◌}
 use Rattle.std.specs.Char.{is_ascii_alphanumeric}
 use Rattle.std.specs.List.{ends_with, list_all, list_any, slice_split, starts_with}
@@ -10,34 +10,31 @@ use Rattle.cs_command.specs.declared.named.Kind.TheVariants.{Locks, Leaves, Limi
 use Rattle.cs_command.specs.declared.words.Class.{Class}
 use Rattle.cs_command.specs.declared.words.Class.TheVariants.{Inner, Unsigned, Quoted, Name}
 
--- the byte is one of these
 abbrev pub is_of : List ℕ → ℕ → Bool
 is_of bytes byte = list_any (λ b. b == byte) bytes
 
--- the word is one of these
 abbrev pub is_among : List (List ℕ) → List ℕ → Bool
 is_among words word = list_any (λ w. bytes_eq w word) words
 
--- the word is one of those in the list, which have a blank between them
+-- the list has a blank between its words
 abbrev pub is_one_of : List ℕ → List ℕ → Bool
 is_one_of list word = list_any (λ known. bytes_eq known word) (slice_split (λ b. b == 32) list)
 
--- such a byte stands for itself (sh(1)), and between quotes a blank does too
+-- a shell takes such a byte literally (sh(1)), and a blank in quotes too
 unfoldable pub is_plain_byte : ℕ → Bool
 is_plain_byte byte = is_ascii_alphanumeric byte || is_of (codes "_./:=@%+,-") byte
 
 abbrev pub is_quoted_byte : ℕ → Bool
 is_quoted_byte byte = is_plain_byte byte || is_blank byte
 
--- these end the words of a program, or turn its input or output (sh(1))
+-- these end the words of a program, or redirect its input or output (sh(1))
 abbrev pub is_sign : ℕ → Bool
 is_sign byte = is_of (codes ";&|()<>") byte
 
--- a byte of a name
+-- a byte in the name of a setting
 abbrev pub is_name_byte : ℕ → Bool
 is_name_byte byte = is_ascii_alphanumeric byte || byte == 95
 
--- bytes that stand together
 abbrev pub holds : Class → ℕ → Bool
 holds Inner = λ byte. not (is_blank byte || is_sign byte)
 holds Unsigned = λ byte. not (is_sign byte)
@@ -51,7 +48,7 @@ first_word text = front is_solid text
 abbrev pub behind_word : List ℕ → List ℕ
 behind_word text = after is_blank (after is_solid text)
 
--- behind a plain word, or this one
+-- after a plain word, or after a certain one
 unfoldable pub behind_plain : List ℕ → Option (List ℕ)
 behind_plain text =
     if is_nothing (first_word text) || not (list_all is_plain_byte (first_word text)) then None
@@ -60,13 +57,13 @@ behind_plain text =
 abbrev pub behind_this : List ℕ → List ℕ → Option (List ℕ)
 behind_this word text = if bytes_eq (first_word text) word then Some (behind_word text) else None
 
--- a word in one pair of quotes, of which this is the first, and what is behind it
+-- a word in quotes, after the first of them, and what follows
 abbrev pub quoted_at : ℕ → List ℕ → Option (List ℕ × List ℕ)
 quoted_at quote text =
     if bytes_eq (first_word (after is_quoted_byte text)) (quote ∷ [])
     then Some (front is_quoted_byte text, behind_word (after is_quoted_byte text)) else None
 
--- a word, plain or in quotes, and what is behind it
+-- a word, plain or in quotes, and what follows
 unfoldable pub word_at : List ℕ → Option (List ℕ × List ℕ)
 word_at [] = None
 word_at (byte ∷ bytes) =
@@ -76,7 +73,7 @@ word_at (byte ∷ bytes) =
 abbrev pub behind_one : List ℕ → Option (List ℕ)
 behind_one text = option_map (λ word. word.1) (word_at text)
 
--- behind all that is passed over, at most so often
+-- after all that `behind` passes, at most so often
 unfoldable pub passed : (List ℕ → Option (List ℕ)) → ℕ → List ℕ → List ℕ
 passed behind zero text = text
 passed behind (suc most) text = unwrap_or (option_map (passed behind most) (behind text)) text
@@ -84,7 +81,7 @@ passed behind (suc most) text = unwrap_or (option_map (passed behind most) (behi
 abbrev pub behind_all : (List ℕ → Option (List ℕ)) → List ℕ → List ℕ
 behind_all behind text = passed behind (length text) text
 
--- ---- what may stand before a call of flock(1) or timeout(1): settings, guards, nice(1), ionice(1)
+-- ---- what may precede a call of flock(1) or timeout(1): settings, guards, nice(1), ionice(1)
 
 -- `NAME=`
 unfoldable pub is_setting : List ℕ → Bool
@@ -92,7 +89,7 @@ is_setting [] = false
 is_setting (byte ∷ bytes) =
     (is_name_byte byte && not (is_digit byte)) && begins_with 61 (after is_name_byte bytes)
 
--- `[ WORDS ] &&`, `test WORDS &&` or `cd WORDS &&`
+-- after `[ WORDS ] &&`, `test WORDS &&` or `cd WORDS &&`
 unfoldable pub behind_guard : List ℕ → Option (List ℕ)
 behind_guard text =
     if bytes_eq (first_word text) (codes "[")
@@ -101,7 +98,7 @@ behind_guard text =
     else if is_one_of (codes "test cd") (first_word text)
     then behind_this (codes "&&") (behind_all behind_one (behind_word text)) else None
 
--- an option, and the value of one that has it in the next word
+-- after an option and its value, which may be the next word
 unfoldable pub behind_nice_option : List ℕ → Option (List ℕ)
 behind_nice_option text =
     if not (begins_with 45 text) then None
@@ -117,7 +114,7 @@ behind_front text =
 
 -- ---- programs that a text names
 
--- what is behind the last slash of a word, where this is behind those before it
+-- the last part of a path; `name` is what follows the last slash so far
 unfoldable pub name_from : List ℕ → List ℕ → List ℕ
 name_from name [] = name
 name_from name (byte ∷ bytes) = name_from (if byte == 47 then bytes else name) bytes
@@ -127,13 +124,13 @@ is_locker name =
     is_one_of (codes "flock lockfile lockfile-create dotlockfile setlock s6-setlock chpst run-one "
     ++ codes "solo lckdo with-lock-ex sem lockrun") name
 
--- it leaves a lock at once, closes descriptors, runs what isn't read here, or removes files
+-- a program that may give up a lock before it ends, close descriptors, run others, or remove files
 unfoldable pub is_leaver : List ℕ → Bool
 is_leaver name =
     is_one_of (codes "sudo doas su ssh at batch systemd-run start-stop-daemon screen tmux script "
     ++ codes "docker podman setsid nohup sh bash env xargs rm mv unlink daemonize") name
 
--- it runs a file that a word behind it names; a version may stand behind its name
+-- a program that runs a file named in a later word; its name may end in a version
 unfoldable pub is_runner : List ℕ → Bool
 is_runner name = list_any (λ known. starts_with (λ a b. a == b) name known)
     (slice_split (λ b. b == 32) (codes "run-parts python perl php ruby node java dash ksh zsh"))
@@ -145,20 +142,18 @@ is_kind Locks word =
 is_kind Leaves word = is_leaver (name_from word word)
 is_kind Limits word = bytes_eq (name_from word word) (codes "timeout")
 
--- A program by its whole path, or by none: no leaver, and no version of what runs a named file.
+-- an absolute path or a bare name of a program that neither leaves a lock nor runs a named file
 unfoldable pub is_own : List ℕ → Bool
 is_own word = (begins_with 47 word || bytes_eq (name_from word word) word)
     && (not (is_leaver (name_from word word)) && not (is_runner (name_from word word)))
 
--- Names and paths of programs are of these bytes: a blank, a quote and what else a shell reads in
--- its own way part them.
+-- The names and paths of programs have no other bytes: a blank, a quote and the shell's signs
+-- separate them.
 unfoldable pub is_parting : ℕ → Bool
 is_parting byte = not (is_ascii_alphanumeric byte || is_of (codes "/._-+") byte)
 
--- how many such words stand in the text
 abbrev pub count_of : Kind → List ℕ → ℕ
 count_of kind text = count_by (is_kind kind) (slice_split is_parting text)
 
--- a program that locks files does
 abbrev pub names_lock : List ℕ → Bool
 names_lock text = not (count_of Locks text == 0)

@@ -1,4 +1,4 @@
-//! Durations, as timeout(1) reads them: a number and a unit.
+//! Durations of timeout(1): a number and a unit.
 ghost use Rattle.std.specs.Prelude.{◌≡◌, ◌≤◌, ◌*◌, ◌+◌, ◌^◌, IfSome, drop, if◌then◌else◌, min};
 ghost use Rattle.std.specs.Int.{div_ceil};
 ghost use Rattle.cs_table.specs.Text.{begins_with};
@@ -6,10 +6,9 @@ ghost use Rattle.cs_command.specs.Timeouts.{MOST, seconds_of, unit_of};
 
 use cs_table::text::digits;
 
-/// More than eleven days, in seconds: longer durations count as that.
+/// More than eleven days, in seconds: longer durations count as this.
 const MOST: u64 = 1_000_000;
 
-/// The seconds of a unit.
 #[tactic(auto, unfolding(crate::specs::Timeouts::unit_of))]
 fn unit_of(suffix: &[u8]) -> Option<u32>
     ensures unit { result ≡ unit_of suffix.now }
@@ -24,7 +23,6 @@ fn unit_of(suffix: &[u8]) -> Option<u32>
     }
 }
 
-/// What stands behind a point at the front.
 fn behind_point(text: &[u8]) -> &[u8]
     ensures { result.now ≡ drop (if begins_with 46 text.now then 1 else 0) text.now }
 {
@@ -50,7 +48,7 @@ fn power_of_ten(exponent: usize) -> u64
     }
 }
 
-/// The seconds of a number of units, rounded up, where so many decimals stand behind its point.
+/// The seconds of a number of units, rounded up; `count` is the number of decimals.
 fn seconds_in(whole: u32, decimals: u32, count: usize, unit: u32) -> u32
     requires whole { whole ≤ MOST }
     requires decimals { decimals ≤ MOST }
@@ -64,8 +62,6 @@ fn seconds_in(whole: u32, decimals: u32, count: usize, unit: u32) -> u32
     (whole + decimals.div_ceil(power_of_ten(count))).min(MOST) as u32
 }
 
-/// The seconds of a duration, rounded up; none where the word is no number of at most six decimals
-/// with a unit.
 #[tactic(auto, unfolding(crate::specs::Timeouts::seconds_of, cs_table::specs::Text::front))]
 pub(crate) fn seconds_of(word: &[u8]) -> Option<u32>
     ensures { result ≡ seconds_of word.now }

@@ -37,7 +37,6 @@ fn is_at_once(word: &[u8]) -> bool
     )
 }
 
-/// What stands behind an option that a mode is like.
 #[tactic(auto, unfolding(crate::specs::Locks::behind_option))]
 fn behind_option(text: &[u8]) -> Option<&[u8]>
     ensures { option_map (λ rest. rest.now) result ≡ behind_option text.now }
@@ -52,7 +51,6 @@ fn behind_option(text: &[u8]) -> Option<&[u8]>
     None
 }
 
-/// Whether the lock is shared, and given up at once, with an option more.
 fn with_option(asked: (bool, bool), option: &[u8]) -> (bool, bool)
     ensures { result ≡ with_option asked option.now }
 {
@@ -66,7 +64,6 @@ fn with_option(asked: (bool, bool), option: &[u8]) -> (bool, bool)
     (shared, true)
 }
 
-/// What the options ask for, and what stands behind them.
 #[tactic(auto, unfolding(crate::specs::Words::passed, crate::specs::Locks::asked_in))]
 fn options(text: &[u8]) -> ((bool, bool), &[u8])
     ensures asked { result.0 ≡ asked_in (length text.now) (false, false) text.now }
@@ -88,7 +85,7 @@ fn options(text: &[u8]) -> ((bool, bool), &[u8])
 
 // ---- the program
 
-/// What stands behind `<`, `>`, `>>`, `2>` or `2>>`; nothing where none is at the front.
+/// After `<`, `>`, `>>`, `2>` or `2>>`; empty without one at the front.
 #[tactic(auto, unfolding(crate::specs::Locks::behind_sign), using(crate::proofs::Longer::is_longer))]
 fn behind_sign(text: &[u8]) -> &[u8]
     ensures { result.now ≡ behind_sign text.now }
@@ -105,7 +102,6 @@ fn behind_sign(text: &[u8]) -> &[u8]
     &[]
 }
 
-/// What stands behind a redirection.
 #[tactic(auto, unfolding(crate::specs::Locks::behind_redirection))]
 fn behind_redirection(text: &[u8]) -> Option<&[u8]>
     ensures { option_map (λ rest. rest.now) result ≡ behind_redirection text.now }
@@ -116,7 +112,6 @@ fn behind_redirection(text: &[u8]) -> Option<&[u8]>
     behind_plain(skip_blanks(behind_sign(text)))
 }
 
-/// What stands behind all redirections.
 #[tactic(auto, unfolding(crate::specs::Words::passed))]
 fn behind_redirections(text: &[u8]) -> &[u8]
     ensures { result.now ≡ behind_all behind_redirection text.now }
@@ -131,7 +126,7 @@ fn behind_redirections(text: &[u8]) -> &[u8]
     rest
 }
 
-/// Whether the text is a program with words, and redirections behind them.
+/// Whether the text is a program with words, and redirections after them.
 #[tactic(auto, unfolding(crate::specs::Locks::is_program))]
 pub(crate) fn is_program(text: &[u8]) -> bool
     ensures { result ≡ is_program text.now }
@@ -143,8 +138,6 @@ pub(crate) fn is_program(text: &[u8]) -> bool
 
 // ---- the lock
 
-/// Whether the program behind the path of a file, or in the word behind its `-c`, keeps its lock to
-/// its end.
 #[tactic(auto, unfolding(crate::specs::Locks::is_held, crate::specs::Locks::behind_c))]
 fn is_held(text: &[u8], path: &[u8], behind: &[u8]) -> bool
     ensures { result ≡ is_held text.now (path.now, behind.now) }
@@ -161,7 +154,7 @@ fn is_held(text: &[u8], path: &[u8], behind: &[u8]) -> bool
         && has_one_place(common_path(path), text)
 }
 
-/// The file and the mode of the lock of a plain call, and what stands behind the path.
+/// The file and the mode of a plain call, and what follows the path.
 #[tactic(auto, unfolding(crate::specs::Locks::call_in))]
 pub(crate) fn call_in(text: &[u8]) -> Option<((&[u8], Mode), &[u8])>
     ensures { option_map (λ call. ((call.0.0.now, call.0.1), call.1.now)) result

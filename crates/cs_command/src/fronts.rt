@@ -1,4 +1,4 @@
-//! What may stand before a plain call of flock(1) or timeout(1): settings, guards, nice(1) and
+//! What may precede a plain call of flock(1) or timeout(1): settings, guards, nice(1) and
 //! ionice(1).
 ghost use Rattle.std.specs.Prelude.{◌≡◌, option_map};
 ghost use Rattle.cs_table.specs.Text.{begins_with};
@@ -18,7 +18,6 @@ pub(crate) fn begins_with(byte: u8, text: &[u8]) -> bool
     }
 }
 
-/// Whether the word begins as `NAME=`.
 #[tactic(auto, unfolding(crate::specs::Words::is_setting))]
 pub(crate) fn is_setting(word: &[u8]) -> bool
     ensures { result ≡ is_setting word.now }
@@ -33,7 +32,6 @@ pub(crate) fn is_setting(word: &[u8]) -> bool
     }
 }
 
-/// What stands behind `[ WORDS ] &&`, `test WORDS &&` or `cd WORDS &&`.
 #[tactic(auto, unfolding(crate::specs::Words::behind_guard))]
 fn behind_guard(text: &[u8]) -> Option<&[u8]>
     ensures { option_map (λ rest. rest.now) result ≡ behind_guard text.now }
@@ -48,7 +46,6 @@ fn behind_guard(text: &[u8]) -> Option<&[u8]>
     None
 }
 
-/// What stands behind an option of nice(1) or ionice(1), and its value.
 #[tactic(auto, unfolding(crate::specs::Words::behind_nice_option))]
 fn behind_nice_option(text: &[u8]) -> Option<&[u8]>
     ensures { option_map (λ rest. rest.now) result ≡ behind_nice_option text.now }
@@ -62,7 +59,6 @@ fn behind_nice_option(text: &[u8]) -> Option<&[u8]>
     behind_plain(text)
 }
 
-/// What stands behind all such options.
 #[tactic(auto, unfolding(crate::specs::Words::passed))]
 fn behind_nice_options(text: &[u8]) -> &[u8]
     ensures { result.now ≡ behind_all behind_nice_option text.now }
@@ -77,7 +73,6 @@ fn behind_nice_options(text: &[u8]) -> &[u8]
     rest
 }
 
-/// What stands behind a setting, a guard, or a call of nice(1) or ionice(1).
 #[tactic(auto, unfolding(crate::specs::Words::behind_front))]
 fn behind_front(text: &[u8]) -> Option<&[u8]>
     ensures { option_map (λ rest. rest.now) result ≡ behind_front text.now }
@@ -93,7 +88,6 @@ fn behind_front(text: &[u8]) -> Option<&[u8]>
     behind_guard(text)
 }
 
-/// What stands behind all of them.
 #[tactic(auto, unfolding(crate::specs::Words::passed))]
 pub(crate) fn behind_fronts(text: &[u8]) -> &[u8]
     ensures { result.now ≡ behind_all behind_front text.now }

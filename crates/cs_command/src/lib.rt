@@ -1,4 +1,4 @@
-//! What a command of a table runs, as far as it is read: its lock, its time limit, its parts.
+//! Reads what the command of a table runs: its lock, its time limit, its parts.
 #![tactic(auto)]
 
 mod durations;

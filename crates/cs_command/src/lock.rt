@@ -1,4 +1,3 @@
-//! The lock that a command of a crontab holds.
 ghost use Rattle.std.specs.Prelude.{◌≡◌, IfOk};
 ghost use Rattle.cs_crontab.specs.Command.{parts_from, pieces_of};
 ghost use Rattle.cs_command.specs.Locks.{IsLock, alone, lock_of, real_path};
@@ -11,18 +10,17 @@ use cs_crontab::command_parts;
 use cs_history::Mode;
 use std::alloc::{AllocError, Global};
 
-/// Whether a command holds a lock as long as it runs.
+/// The lock that a command holds while it runs.
 #[derive(Drop)]
 pub enum Lock {
-    /// It names no program that locks files.
+    /// None, and the command names no program that locks files.
     Absent,
-    /// It holds the lock of the file, in that mode.
+    /// That of the file, in this mode.
     Of(Bytes, Mode),
-    /// It names one, in a text that isn't read as a plain lock.
+    /// Unknown: the command names a program that locks files, but isn't a plain call of flock(1).
     Unread,
 }
 
-/// The text that the shell is given for the command, where that has no input.
 fn shell_text(alloc: Global, command: &[u8]) -> Result<Option<Bytes>, AllocError>
     ensures { IfOk result (λ text. text ≡ alone (parts_from (pieces_of command.now))) }
 {
@@ -33,7 +31,7 @@ fn shell_text(alloc: Global, command: &[u8]) -> Result<Option<Bytes>, AllocError
     }
 }
 
-/// The one path of the file.
+/// The path without the links /var/run and /var/lock.
 #[tactic(auto, unfolding(crate::specs::Locks::real_path))]
 fn real_path(alloc: Global, path: &[u8]) -> Result<Vec<u8>, AllocError>
     ensures { IfOk result (λ file. file.items ≡ real_path path.now) }
@@ -46,7 +44,8 @@ fn real_path(alloc: Global, path: &[u8]) -> Result<Vec<u8>, AllocError>
     Ok(file)
 }
 
-/// The lock of the command: that of a plain call in what the shell is given.
+/// The file and the mode of the lock that a command holds by a plain call of flock(1). The only
+/// error is out of memory.
 pub fn own_lock(alloc: Global, command: &[u8]) -> Result<Option<(Bytes, Mode)>, AllocError>
     ensures { IfOk result (λ lock. lock ≡ lock_of command.now) }
 {
@@ -62,7 +61,7 @@ pub fn own_lock(alloc: Global, command: &[u8]) -> Result<Option<(Bytes, Mode)>, 
     }
 }
 
-/// The lock that the command holds as long as it runs, or none. The only error is want of memory.
+/// The lock that the command holds while it runs. The only error is out of memory.
 pub fn lock_of(alloc: Global, command: &[u8]) -> Result<Lock, AllocError>
     ensures { IfOk result (IsLock command.now) }
 {

@@ -1,4 +1,4 @@
-//! Which programs a text names, whatever a shell makes of it.
+//! The programs that a text names, whatever a shell makes of it.
 ghost use Rattle.std.specs.Prelude.{◌≡◌};
 ghost use Rattle.cs_command.specs.Words.{count_of, is_kind, is_leaver, is_own};
 ghost use Rattle.cs_command.specs.Words.{is_parting, is_runner, name_from, names_lock};
@@ -6,18 +6,17 @@ ghost use Rattle.cs_command.specs.Words.{is_parting, is_runner, name_from, names
 use crate::fronts::begins_with;
 use crate::words::is_one_of;
 
-/// What a program does that a draft has to know of.
+/// What a program does that matters to a lock.
 #[derive(Clone, Copy)]
 pub(crate) enum Kind {
     /// It locks files.
     Locks,
-    /// It leaves a lock at once, closes descriptors, runs what isn't read here, or removes files.
+    /// It may give up a lock before it ends, close descriptors, run others, or remove files.
     Leaves,
     /// It is timeout(1).
     Limits,
 }
 
-/// What stands behind the last slash of a word.
 #[tactic(auto, unfolding(crate::specs::Words::name_from))]
 fn name_of(word: &[u8]) -> &[u8]
     ensures { result.now ≡ name_from word.now word.now }
@@ -43,7 +42,6 @@ fn is_leaver(name: &[u8]) -> bool
     is_one_of(names, name)
 }
 
-/// Whether it runs a file that a word behind it names, in any version.
 fn is_runner(name: &[u8]) -> bool
     ensures { result ≡ is_runner name.now }
 {
@@ -52,7 +50,6 @@ fn is_runner(name: &[u8]) -> bool
         .any(|known| name.starts_with(known))
 }
 
-/// Whether the word names one program, in whichever folder, that runs no other one.
 #[tactic(auto, unfolding(crate::specs::Words::is_own))]
 pub(crate) fn is_own(word: &[u8]) -> bool
     ensures { result ≡ is_own word.now }
@@ -61,7 +58,6 @@ pub(crate) fn is_own(word: &[u8]) -> bool
     (begins_with(b'/', word) || name == word) && !is_leaver(name) && !is_runner(name)
 }
 
-/// Whether the word is a program of that kind, or a path to one.
 #[tactic(auto, unfolding(crate::specs::Words::is_kind, crate::specs::Words::is_locker))]
 fn is_kind(kind: Kind, word: &[u8]) -> bool
     ensures { result ≡ is_kind kind word.now }
@@ -76,7 +72,6 @@ fn is_kind(kind: Kind, word: &[u8]) -> bool
     }
 }
 
-/// Whether the byte can't stand in the path of a program.
 #[tactic(auto, unfolding(crate::specs::Words::is_parting))]
 fn is_parting(byte: u8) -> bool
     ensures { result ≡ is_parting byte }
@@ -84,7 +79,6 @@ fn is_parting(byte: u8) -> bool
     !(byte.is_ascii_alphanumeric() || b"/._-+".as_slice().contains(&byte))
 }
 
-/// How many words of the text are programs of that kind.
 pub(crate) fn count_of(kind: Kind, text: &[u8]) -> usize
     ensures { result ≡ count_of kind text.now }
 {
@@ -93,7 +87,7 @@ pub(crate) fn count_of(kind: Kind, text: &[u8]) -> usize
         .count()
 }
 
-/// Whether one of them locks files.
+/// Whether the text names a program that locks files.
 pub fn names_lock(text: &[u8]) -> bool
     ensures { result ≡ names_lock text.now }
 {

@@ -1,4 +1,4 @@
-//! Which file the path of a lock file is, and how often it stands in a text.
+//! The paths of lock files: which file each is, and how often it is in a text.
 ghost use Rattle.std.specs.Prelude.{◌≡◌, ◌==◌, ◌∷◌, [], codes, count_by, option_map};
 ghost use Rattle.std.specs.List.{slice_split};
 ghost use Rattle.cs_command.specs.Words.{is_among};
@@ -7,7 +7,6 @@ ghost use Rattle.cs_command.specs.Locks.{is_file};
 
 use cs_table::text::is_among;
 
-/// Whether the part of a path has no name or leads off.
 fn is_off(part: &[u8]) -> bool
     ensures { result ≡ is_among ([] ∷ codes "." ∷ codes ".." ∷ []) part.now }
 {
@@ -30,7 +29,6 @@ pub fn is_below(folder: &[u8], path: &[u8]) -> bool
     path.starts_with(folder)
 }
 
-/// Whether the path is that of one file, whichever folder and process it is of.
 #[tactic(auto, unfolding(crate::specs::Locks::is_file))]
 pub(crate) fn is_file(path: &[u8]) -> bool
     ensures { result ≡ is_file path.now }
@@ -41,7 +39,6 @@ pub(crate) fn is_file(path: &[u8]) -> bool
         && !is_below(b"/dev/", path)
 }
 
-/// The path without its `/var`, where it is below `/var/run` or `/var/lock`.
 #[tactic(auto, unfolding(crate::specs::Locks::behind_var), using(crate::proofs::Longer::is_longer))]
 pub(crate) fn behind_var(path: &[u8]) -> &[u8]
     ensures { result.now ≡ behind_var path.now }
@@ -55,7 +52,6 @@ pub(crate) fn behind_var(path: &[u8]) -> &[u8]
     path
 }
 
-/// What all spellings of a path have.
 #[tactic(auto, unfolding(crate::specs::Locks::common_path), using(crate::proofs::Longer::is_longer))]
 pub(crate) fn common_path(path: &[u8]) -> &[u8]
     ensures { result.now ≡ common_path path.now }
@@ -67,7 +63,7 @@ pub(crate) fn common_path(path: &[u8]) -> &[u8]
     path
 }
 
-/// What stands behind the first byte of the first place of a text in another one.
+/// After the first byte of the first place of a text in another one.
 #[tactic(auto, unfolding(crate::specs::Locks::behind_place))]
 pub fn behind_place<'t>(part: &[u8], text: &'t [u8]) -> Option<&'t [u8]>
     ensures { option_map (λ rest. rest.now) result ≡ behind_place part.now text.now }
@@ -82,7 +78,6 @@ pub fn behind_place<'t>(part: &[u8], text: &'t [u8]) -> Option<&'t [u8]>
     None
 }
 
-/// Whether it has no second place there.
 pub(crate) fn has_one_place(part: &[u8], text: &[u8]) -> bool
     ensures { result ≡ has_one_place part.now text.now }
 {

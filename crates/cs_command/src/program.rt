@@ -1,9 +1,9 @@
-//! What a command is named after: its program, by a looser reading than that of locks.
+//! The program after which a command is named, which is read more loosely than a lock is.
 use crate::fronts::{begins_with, is_setting};
 use crate::words::{behind_word, first_word, is_one_of};
 use cs_table::text::digits;
 
-/// Whether there is a word, which a shell takes as it stands.
+/// Whether there is a word, and a shell takes it literally.
 fn is_unsigned(word: &[u8]) -> bool {
     let signs = b"\"'\\`;&|()<>#%".as_slice();
     for byte in word {
@@ -14,7 +14,7 @@ fn is_unsigned(word: &[u8]) -> bool {
     !word.is_empty()
 }
 
-/// What stands behind options and numbers, such as those of nice(1), ionice(1) and flock(1).
+/// After options and numbers, such as those of nice(1), ionice(1) and flock(1).
 fn behind_options(text: &[u8]) -> &[u8] {
     let mut rest = text;
     for _ in 0..text.len() {
@@ -31,7 +31,7 @@ fn behind_options(text: &[u8]) -> &[u8] {
     rest
 }
 
-/// What stands behind plain words and `&&`.
+/// After plain words and `&&`.
 fn behind_guard(text: &[u8]) -> Option<&[u8]> {
     let mut rest = text;
     for _ in 0..text.len() {
@@ -47,8 +47,8 @@ fn behind_guard(text: &[u8]) -> Option<&[u8]> {
     None
 }
 
-/// What stands behind words that only prepare a run: a setting, `nice` or `ionice`, `flock` and its
-/// file, and `cd`, `test` or `[` up to `&&`.
+/// After words that only prepare a run: a setting, `nice` or `ionice`, `flock` and its file, and
+/// `cd`, `test` or `[` up to `&&`.
 fn behind_front(text: &[u8]) -> Option<&[u8]> {
     let first = first_word(text);
     let rest = behind_word(text);
@@ -72,8 +72,8 @@ fn behind_front(text: &[u8]) -> Option<&[u8]> {
     }
 }
 
-/// The program that a command runs, and its words, behind what only prepares its run; the whole command
-/// where a program that is no plain word stands there.
+/// The program that a command runs, with its words, after what only prepares the run; the whole
+/// command if no plain word is there.
 pub fn program_text(command: &[u8]) -> &[u8] {
     let mut rest = command;
     for _ in 0..command.len() {

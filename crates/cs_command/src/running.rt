@@ -1,4 +1,3 @@
-//! Which folder's programs a command of a table runs by run-parts(8).
 use crate::fronts::begins_with;
 use crate::paths::{behind_place, has_one_place};
 use crate::words::{Class, behind_word, first_word, is_one_of, split_front};
@@ -14,18 +13,18 @@ pub enum RunParts<'c> {
     Absent,
     /// The programs in a folder.
     Folder {
-        /// The path of the folder, from the root.
+        /// The absolute path of the folder.
         path: &'c str,
         /// Whether the last one runs first.
         is_reversed: bool,
     },
-    /// It may run some, and this is why it isn't known which.
+    /// It may run some; this is why they are unknown.
     Unread(&'static str),
 }
 
 const NAME: &[u8] = b"run-parts";
 
-/// What stands behind the first word of a text that is run-parts, or a path to it.
+/// After the first word that is run-parts, or a path to it.
 fn behind_call(text: &[u8]) -> Option<&[u8]> {
     let mut rest = text;
     for _ in 0..text.len() {
@@ -41,8 +40,8 @@ fn behind_call(text: &[u8]) -> Option<&[u8]> {
     None
 }
 
-/// Whether another program begins behind the words of one: behind `;` or `(`, or behind `&` or `|`
-/// where `<` or `>` isn't directly in front, as in `2>&1`.
+/// Whether another program follows: after `;` or `(`, or after `&` or `|` unless `<` or `>` is
+/// directly before it, as in `2>&1`.
 fn goes_on(text: &[u8]) -> bool {
     let mut may = false;
     let mut turned = false;
@@ -70,7 +69,7 @@ fn goes_on(text: &[u8]) -> bool {
     false
 }
 
-/// Whether the word stands for itself: a shell puts nothing else in its place.
+/// Whether a shell takes the word literally.
 fn is_plain(word: &[u8]) -> bool {
     let signs = b"\"'\\$`*?[]{}~".as_slice();
     for byte in word {
@@ -81,7 +80,6 @@ fn is_plain(word: &[u8]) -> bool {
     true
 }
 
-/// What a call with that folder runs.
 fn programs_of(folder: Option<&[u8]>, is_reversed: bool) -> RunParts<'_> {
     let Some(word) = folder else {
         return RunParts::Unread("run-parts has no folder");
@@ -94,10 +92,10 @@ fn programs_of(folder: Option<&[u8]>, is_reversed: bool) -> RunParts<'_> {
     }
 }
 
-/// What the words of a call run. Options and folders come in any order, and `--` ends the options.
+/// What the words of a call run. Options and folders are in any order, and `--` ends the options.
 fn run_by(text: &[u8]) -> RunParts<'_> {
     let unknown = RunParts::Unread("run-parts has an option that isn't known here");
-    // these change nothing about which programs run
+    // these don't change which programs run
     let quiet = b"--report -v --verbose --exit-on-error --new-session --stdin";
     let mut folder = None;
     let mut is_reversed = false;
@@ -134,8 +132,8 @@ fn run_by(text: &[u8]) -> RunParts<'_> {
     programs_of(folder, is_reversed)
 }
 
-/// Returns what a command of a table runs by run-parts(8), as far as its text says: it reads one
-/// call in what the shell is given, of the last program there.
+/// Returns what a command of a table runs by run-parts(8). Reads one call, which has to be the last
+/// program in the shell's text.
 pub fn run_parts(command: &[u8]) -> RunParts<'_> {
     let text = match memchr(b'%', command) {
         Some(at) => &command[..at],
@@ -158,7 +156,7 @@ pub fn run_parts(command: &[u8]) -> RunParts<'_> {
     if goes_on(others) {
         return RunParts::Unread("run-parts isn't the last program in it");
     }
-    // a number directly in front of `<` or `>` is no word of the call
+    // a number directly before `<` or `>` is no word of the call
     let (before, last) = split_last_word(words);
     let turns = begins_with(b'<', others) || begins_with(b'>', others);
     if turns && digits(last).1.is_empty() {

@@ -1,4 +1,4 @@
-//! How long a command may run at most, as timeout(1) ends it.
+//! The time after which timeout(1) ends a command.
 ghost use Rattle.std.specs.Prelude.{◌≡◌, option_map};
 ghost use Rattle.cs_command.specs.Timeouts.{asked_for, behind_signal, kill_at, limit_at, limit_for};
 ghost use Rattle.cs_command.specs.Timeouts.{limit_in, program_of, run_in, time_limit};
@@ -12,7 +12,6 @@ use cs_plan::MAX_MINUTES;
 
 // ---- one call of timeout(1)
 
-/// What stands behind `-s` and such a signal, if they are there.
 #[tactic(auto, unfolding(crate::specs::Timeouts::behind_signal))]
 fn behind_signal(text: &[u8]) -> &[u8]
     ensures { result.now ≡ behind_signal text.now }
@@ -24,7 +23,6 @@ fn behind_signal(text: &[u8]) -> &[u8]
     text
 }
 
-/// The seconds to the signal KILL, which are 0 where none are told, and what stands behind them.
 fn kill_at(text: &[u8]) -> (Option<u32>, &[u8])
     ensures seconds { result.0 ≡ (kill_at text.now).0 }
     ensures behind { result.1.now ≡ (kill_at text.now).1 }
@@ -36,8 +34,6 @@ fn kill_at(text: &[u8]) -> (Option<u32>, &[u8])
     (Some(0), text)
 }
 
-/// The minutes of both, rounded up, and one more, or two for a run that waits; none where there is
-/// no limit.
 #[tactic(auto, unfolding(crate::specs::Timeouts::limit_for))]
 fn limit_for(waits: bool, seconds: Option<u32>, kill: Option<u32>) -> Option<u64>
     ensures { result ≡ limit_for waits seconds kill }
@@ -53,7 +49,6 @@ fn limit_for(waits: bool, seconds: Option<u32>, kill: Option<u32>) -> Option<u64
 
 // ---- the command
 
-/// The limit that a call of timeout(1) sets to a program that may not leave it.
 #[tactic(auto, unfolding(crate::specs::Timeouts::limit_of))]
 fn limit_at(waits: bool, text: &[u8]) -> Option<u64>
     ensures { result ≡ limit_at (waits, text.now) }
@@ -70,8 +65,6 @@ fn limit_at(waits: bool, text: &[u8]) -> Option<u64>
     limit_for(waits, seconds_of(first_word(duration)), kill)
 }
 
-/// Whether the run waits for its lock, and what stands behind the lock's file; or what stands behind
-/// settings, guards and nice(1).
 #[tactic(auto, unfolding(crate::specs::Timeouts::run_in))]
 fn run_in(text: &[u8]) -> Option<(bool, &[u8])>
     ensures { option_map (λ run. (run.0, run.1.now)) result ≡ run_in text.now }
@@ -88,8 +81,8 @@ fn run_in(text: &[u8]) -> Option<(bool, &[u8])>
     }
 }
 
-/// The program that the command runs there, behind nice(1) again: none that runs another one, or a
-/// file of a folder that isn't told.
+/// The program that the command runs after settings, guards, its lock and nice(1); none if it may
+/// run others.
 pub fn program_of(command: &[u8]) -> Option<&[u8]>
     ensures { option_map (λ word. word.now) result ≡ program_of command.now }
 {
@@ -116,8 +109,8 @@ pub fn limit_in(text: &[u8]) -> Option<u64>
     }
 }
 
-/// Returns the limit in minutes, at most 4,320, that timeout(1) sets to a command as its last runner.
-/// `None` where it sets none that can be declared.
+/// Returns the limit in minutes that timeout(1), the last program before the command's own, sets;
+/// none if no job may have it.
 pub fn time_limit(command: &[u8]) -> Option<u64>
     ensures { result ≡ time_limit command.now }
 {
@@ -127,14 +120,14 @@ pub fn time_limit(command: &[u8]) -> Option<u64>
     }
 }
 
-/// The longest time of a run in minutes: the asked one, unless timeout(1) sets a limit.
+/// The longest time of a run in minutes: the limit of timeout(1), else the asked one.
 pub fn asked_for(asked: u64, command: &[u8]) -> u64
     ensures { result ≡ asked_for asked command.now }
 {
     time_limit(command).unwrap_or(asked)
 }
 
-/// Whether a program that the command runs under such a limit is ended by KILL.
+/// Whether timeout(1) ends the command by KILL.
 pub fn is_killed(command: &[u8]) -> bool {
     let Some((_, behind)) = run_in(command) else {
         return false;

@@ -1,4 +1,4 @@
-//! The words of a command that stand for themselves, for a shell (sh(1)) and for what it runs.
+//! The words of a command that a shell (sh(1)) takes literally.
 ghost use Rattle.std.specs.Prelude.{◌≡◌, option_map};
 ghost use Rattle.std.specs.List.{list_all};
 ghost use Rattle.cs_table.specs.Text.{after, front};
@@ -8,7 +8,7 @@ ghost use Rattle.cs_command.specs.Words.{quoted_at, word_at};
 
 use cs_table::text::{is_blank, skip_blanks, word};
 
-/// Whether the word is one of those in the list, which have a blank between them.
+/// The list has a blank between its words.
 pub(crate) fn is_one_of(list: &[u8], word: &[u8]) -> bool
     ensures { result ≡ is_one_of list.now word.now }
 {
@@ -29,7 +29,6 @@ pub(crate) fn behind_word(text: &[u8]) -> &[u8]
     skip_blanks(rest)
 }
 
-/// Whether the byte stands for itself in a word.
 #[tactic(auto, unfolding(crate::specs::Words::is_plain_byte))]
 fn is_plain_byte(byte: u8) -> bool
     ensures { result ≡ is_plain_byte byte }
@@ -43,7 +42,6 @@ fn are_plain(word: &[u8]) -> bool
     word.iter().all(|byte| is_plain_byte(*byte))
 }
 
-/// What stands behind a plain word.
 #[tactic(auto, unfolding(crate::specs::Words::behind_plain))]
 pub(crate) fn behind_plain(text: &[u8]) -> Option<&[u8]>
     ensures { option_map (λ rest. rest.now) result ≡ behind_plain text.now }
@@ -55,7 +53,6 @@ pub(crate) fn behind_plain(text: &[u8]) -> Option<&[u8]>
     Some(behind_word(text))
 }
 
-/// What stands behind that word.
 pub(crate) fn behind_this<'t>(word: &[u8], text: &'t [u8]) -> Option<&'t [u8]>
     ensures { option_map (λ rest. rest.now) result ≡ behind_this word.now text.now }
 {
@@ -66,14 +63,13 @@ pub(crate) fn behind_this<'t>(word: &[u8], text: &'t [u8]) -> Option<&'t [u8]>
     }
 }
 
-/// Whether the byte ends the words of a program, or turns its input or output.
 fn is_sign(byte: u8) -> bool
     ensures { result ≡ is_sign byte }
 {
     b";&|()<>".as_slice().contains(&byte)
 }
 
-/// Bytes that stand together: in a word, up to a sign, between quotes, or in a name.
+/// Sets of bytes: in a word, up to a sign, in quotes, or in a name.
 #[derive(Clone, Copy)]
 pub(crate) enum Class {
     Inner,
@@ -95,7 +91,7 @@ impl Class {
     }
 }
 
-/// The bytes of the class at the front, and what stands behind them.
+/// The bytes of the class at the front, and the rest.
 pub(crate) fn split_front(class: Class, text: &[u8]) -> (&[u8], &[u8])
     ensures word { result.0.now ≡ front (holds class) text.now }
     ensures rest { result.1.now ≡ after (holds class) text.now }
@@ -107,7 +103,6 @@ pub(crate) fn split_front(class: Class, text: &[u8]) -> (&[u8], &[u8])
     text.split_at(len)
 }
 
-/// The word in quotes, of which the first stood before the text, and what stands behind it.
 fn quoted_at(quote: u8, text: &[u8]) -> Option<(&[u8], &[u8])>
     ensures { option_map (λ word. (word.0.now, word.1.now)) result ≡ quoted_at quote text.now }
 {
@@ -118,7 +113,7 @@ fn quoted_at(quote: u8, text: &[u8]) -> Option<(&[u8], &[u8])>
     }
 }
 
-/// The word at the front, plain or in quotes, and what stands behind it.
+/// The word at the front, plain or in quotes, and the rest.
 #[tactic(auto, unfolding(crate::specs::Words::word_at))]
 pub(crate) fn word_at(text: &[u8]) -> Option<(&[u8], &[u8])>
     ensures { option_map (λ word. (word.0.now, word.1.now)) result ≡ word_at text.now }

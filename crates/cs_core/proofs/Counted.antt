@@ -27,7 +27,6 @@ module _ (p : Plan) where
       total-map (λ h. one (t h)) (λ (x : Going). hold_of p x.run.job) xs ∙ one_less (λ q. t (hold_of p q.job)) r xs once there
       ∙ ap (λ n. n + one (t (hold_of p r.job))) (sym (total-map (λ h. one (t h)) (λ (x : Going). hold_of p x.run.job) (others xs r)))
 
-  -- those that wait, by name alone
   pub names_hold : (xs : List Going) → waiting_holds p (names xs) ≡ going_holds p xs
   names_hold [] = refl
   names_hold (x ∷ xs) = ap (λ (hs : List Hold). hold_of p x.run.job ∷ hs) (names_hold xs)

@@ -9,7 +9,7 @@ use Rattle.cs_history.specs.Step.{is_in_time}
 use Rattle.cs_history.specs.declared.run.Run.{Run}
 use Rattle.cs_history.specs.declared.run.Going.{Going}
 
--- whether a run is that came in this minute, if it came
+-- whether a run that came in this minute, if it came, is in time
 abbrev is_short : Plan → ℕ → Run → Option ℕ → Bool
 is_short p t r None = true
 is_short p t r (Some since) = nat_lt t (since + p.limit r.job)
@@ -31,7 +31,6 @@ in_time_some p t r xs since found = by_since p t r xs ∙ ap (is_short p t r) (s
 pub in_time_none : (p : Plan) (t : ℕ) (r : Run) (xs : List Going) → None ≡ since_in r xs → is_in_time p t r xs ≡ true
 in_time_none p t r xs found = by_since p t r xs ∙ ap (is_short p t r) (sym found)
 
--- the minute is before its end, by the minutes since
 pub less_either : (t since limit : ℕ) → t < since → nat_lt t (since + limit) ≡ true
 less_either t since limit early = lt-ltb t (since + limit) (omega (arith, early))
 

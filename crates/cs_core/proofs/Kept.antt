@@ -22,7 +22,6 @@ use Rattle.cs_roster.specs.Roster.{has, others}
 use Rattle.cs_core.specs.Standing.{IsKept, IsLone, going_holds, is_job, owed_beside, state_in, waiting_holds}
 use Rattle.cs_core.proofs.Runs.{any_others, any_push, none_counted, none_named, one_less}
 
--- of an anacron job: it differs from each cron job
 other_job : (p : Plan) (i j : ℕ) → is_cron p i ≡ true → is_cron p j ≡ false → (i == j) ≡ false
 other_job p i j cron anacron = false_from_ne_true (i == j) (λ e. both_ways (is_cron p j) anacron (ap (is_cron p) (sym (eqb-true i j e)) ∙ cron))
 
@@ -82,7 +81,6 @@ owed_is p ss runs lone t k =
     same_filter (λ j. p.owed j (get_or ss (j - p.crons) None) (t / 1440) && not (is_job lone j)) (λ j. p.owed j (get_or ss (j - p.crons) None) (t / 1440) && not (list_any (λ r. r.run.job == j) runs)) (by_delay p)
     (all_map (IsAnacron p) _ (by_delay p) (λ j h. ap (λ (b : Bool). p.owed j (get_or ss (j - p.crons) None) (t / 1440) && not b) (sym (k.which j h.0))) (listed p p.jobs (omega arith)))
 
--- each group of a plan has its place
 all_listed : (p : Plan) → IsPlan p → p.groups ≤ 64 → (j : ℕ) → is_listed (hold_of p j) ≡ true
 all_listed p plan few j = by (takes_lock p j) (shares p j) (p.group j) refl
   where
@@ -128,7 +126,7 @@ module _ (p : Plan) (s : State) (held wanted : Counts) (lone : Option ℕ) (k : 
     begin_cron : is_cron p j ≡ true
     begin_cron = let found = any_at (λ i. j == i) (λ i. is_cron p i ≡ true) s.pending is_pending k.named.pending in ap (is_cron p) (eqb-true j found.0 found.1) ∙ found.2
 
-    -- the name that the job's run has now is pending, so it is that of no other run
+    -- the name that the job's run has now is pending, so no other run has it
     due_now : 1 ≤ number_of (λ i. same_run (run_of j s.now) (run_of i s.now)) s.pending
     due_now = omega (arith, one_same (run_of j s.now), total_without (λ i. j == i) (due_of (run_of j s.now) s.now) (due_of (run_of j s.now) s.now j) s.pending (eq_term (due_of (run_of j s.now) s.now) j) is_pending)
 
@@ -209,7 +207,6 @@ module _ (p : Plan) (s : State) (held wanted : Counts) (lone : Option ℕ) (k : 
     pub kept_anacron : (less : Counts) → is_cron p r.job ≡ false → IsCounted (going_holds p (others s.running r)) less → IsKept p (after p s (End r)) less wanted None
     kept_anacron less anacron counted = record { named = named_step p s (End r) may k.named; runs = counted; waits = k.waits; plan = k.plan; takers = k.takers; listed = k.listed; lone = anacron_ends p s.running r anacron end_once end_there k.named.lone }
 
--- a job that waits takes a lock
 pub waits_take : (p : Plan) (rs : List Going) (j : ℕ) → IsPlan p → answer p rs j ≡ Waits → takes (hold_of p j) ≡ true
 waits_take p rs j plan is =
     let taking = of_mode (p.mode j) (of_answer (is_free p rs j) (p.mode j) is) in
@@ -227,12 +224,10 @@ waits_take p rs j plan is =
     of_mode Wait e = refl
     of_mode Shared e = refl
 
--- a pass without its first job
 pub pass_removed : (t : ℕ) (js : List ℕ) → pass_of t (remove js 0) ≡ without_first (pass_of t js)
 pass_removed t [] = refl
 pass_removed t (j ∷ js) = refl
 
--- a pass that need not begin
 pub not_opened : (o n : Option Pass) → opened o false n ≡ o
 not_opened None n = refl
 not_opened (Some o) n = refl

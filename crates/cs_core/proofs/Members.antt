@@ -18,7 +18,6 @@ use Rattle.cs_history.proofs.Names.{run_is, all_placed}
 use Rattle.cs_history.proofs.Steps.{passed, passes, if_civil, turn_if, legal_if, if_legal, reached}
 use Rattle.cs_core.specs.Choices.{is_before, by_name, candidates, choices, choice_for, is_none}
 
--- an element is one of these
 abbrev IsIn : {X : Type 0} → X → List X → Type 0
 IsIn x [] = ⊥
 IsIn x (y ∷ ys) = (y ≡ x) ⊎ IsIn x ys
@@ -234,7 +233,6 @@ below_rising : (n : ℕ) → EachPair (λ i j. i < j) (below n)
 below_rising zero = tt
 below_rising (suc n) = pairs_push (λ i j. i < j) (below n) n (below_rising n) (all_below n)
 
--- pending jobs rise
 pub rising : (p : Plan) (h : History) → EachPair (λ i j. i < j) (pending p h)
 rising p (From s) = tt
 rising p (h ▸ Minute t) = pairs-filter (λ i j. i < j) (λ j. p.due j t) (below p.crons) (below_rising p.crons)

@@ -43,11 +43,9 @@ names_others r (x ∷ xs) = by (same_run r x.run) (names_others r xs)
     by true rest = rest
     by false rest = ap (λ (rs : List Run). x.run ∷ rs) rest
 
--- a name that none has
 pub none_named : {X : Type 0} (f : X → Run) (r : Run) (xs : List X) → number_of (λ x. same_run r (f x)) xs ≤ 0 → list_any (λ x. same_run r (f x)) xs ≡ false
 none_named f r xs e = none_pass (λ x. same_run r (f x)) xs (none_same f r xs e)
 
--- none is counted, so none passes
 pub none_counted : {X : Type 0} (t : X → Bool) (xs : List X) → number_of t xs ≤ 0 → AllByRecursion (λ x. t x ≡ false) xs
 none_counted t [] e = tt
 none_counted t (x ∷ xs) e = (false_from_ne_true (t x) (λ q. let h : one (t x) ≡ 1 = ap one q in absurd (omega (arith, h, e))), none_counted t xs (omega (arith, e)))
@@ -58,7 +56,7 @@ same_all : (r : Run) (xs : List Going) → AllByRecursion (λ x. same_run r x.ru
 same_all r [] a = refl
 same_all r (x ∷ xs) a = ap (λ (b : Bool). cond (not b) (x ∷ others xs r) (others xs r)) a.0 ∙ ap (λ (ys : List Going). x ∷ ys) (same_all r xs a.1)
 
--- where a name occurs once, the count is greater by that run's
+-- where a name occurs once, the count is greater by that run
 pub one_less : (t : Run → Bool) (r : Run) (xs : List Going) → number_of (λ x. same_run r x.run) xs ≤ 1 → has xs r ≡ true → number_of (λ x. t x.run) xs ≡ number_of (λ x. t x.run) (others xs r) + one (t r)
 one_less t r [] once there = absurd (both_ways false refl there)
 one_less t r (x ∷ xs) once there = by (same_run r x.run) refl (one_less t r xs)
@@ -82,11 +80,11 @@ pub all_counted : (xs : List Going) → number_of (λ x. true) xs ≡ length xs
 all_counted [] = refl
 all_counted (x ∷ xs) = omega (arith, all_counted xs)
 
--- those that go on when one ends
+-- how many go on when one ends
 pub one_fewer : (r : Run) (xs : List Going) → number_of (λ x. same_run r x.run) xs ≤ 1 → has xs r ≡ true → length (others xs r) + 1 ≡ length xs
 one_fewer r xs once there = omega (arith, one_less (λ q. true) r xs once there, all_counted xs, all_counted (others xs r))
 
--- what passes is still there, but for that run
+-- what passes is still there, if it isn't that run
 pub any_others : (t : Run → Bool) (r : Run) (xs : List Going) → t r ≡ false → list_any (λ x. t x.run) (others xs r) ≡ list_any (λ x. t x.run) xs
 any_others t r [] miss = refl
 any_others t r (x ∷ xs) miss = by (same_run r x.run) refl (any_others t r xs miss)
@@ -96,11 +94,9 @@ any_others t r (x ∷ xs) miss = by (same_run r x.run) refl (any_others t r xs m
     by true same rest = rest ∙ sym (ap (λ (b : Bool). b || list_any (λ x. t x.run) xs) (ap t (sym (run_is r x.run same)) ∙ miss))
     by false differs rest = ap (λ (b : Bool). t x.run || b) rest
 
--- there are names where there are runs
 pub names_none : (xs : List Going) (ws : List Run) → names xs ≡ ws → (xs ≡ [] → ws ≡ []) × (ws ≡ [] → xs ≡ [])
 names_none [] ws e = (λ _. sym e, λ _. refl)
 names_none (x ∷ xs) ws e = (λ f. absurd (omega (arith, ap length f)), λ f. absurd (omega (arith, ap length (e ∙ f))))
 
--- a run that isn't among them leaves nothing out
 pub no_others : (r : Run) (xs : List Going) → has xs r ≡ false → others xs r ≡ xs
 no_others r xs none = same_all r xs (none_passes (λ (x : Going). same_run r x.run) xs none)

@@ -13,13 +13,12 @@ use Rattle.cs_history.specs.declared.refusal.Refusal.{Refusal}
 abbrev pub is_before : Run → Run → Bool
 is_before r q = nat_lt r.job q.job || ((r.job == q.job) && nat_lt r.at q.at)
 
--- the runs by job, then minute
 abbrev pub by_name : List Run → List Run
 by_name rs = fold (λ list r. placed is_before r list) [] rs
 
--- what may come at best, by kind, then job, then minute: the next minute, the jobs that are
--- pending, the runs that wait, the jobs left to the pass, the runs that run, a going down, and a
--- coming up now, which stands for all later ones
+-- what may come at best: the next minute, the pending jobs, the waiting runs, the jobs left to the
+-- pass in its order, the running runs, a going down, and a coming up now, which stands for all
+-- later ones; runs by job, then minute
 abbrev pub candidates : State → List Event
 candidates s =
     Minute (s.now + 1)
@@ -33,7 +32,7 @@ abbrev pub is_none : Option Refusal → Bool
 is_none None = true
 is_none (Some f) = false
 
--- those of them that are not refused
+-- those of them that aren't refused
 abbrev pub choices : Plan → State → List Event
 choices p s = filter (λ e. is_none (refusal p s e)) (candidates s)
 

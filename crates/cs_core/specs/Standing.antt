@@ -17,18 +17,16 @@ pub record Standing : Type 0 where
   pub plan : Declared
   pub state : State
 
--- the names of runs, in their order
 abbrev pub names : List Going → List Run
 names runs = map (λ r. r.run) runs
 
--- what runs that run, and runs that wait, have to do with locks
+-- the holds of running or waiting runs
 abbrev pub going_holds : Plan → List Going → List Hold
 going_holds p rs = map (λ r. hold_of p r.run.job) rs
 
 abbrev pub waiting_holds : Plan → List Run → List Hold
 waiting_holds p ws = map (λ w. hold_of p w.job) ws
 
--- the state with these parts
 abbrev pub state_in : ℕ → Bool → List ℕ → List Going → List Going → List (Option ℕ) → Option Pass
     → State
 state_in now up due waiting running stamps pass = record {
@@ -41,26 +39,25 @@ state_in now up due waiting running stamps pass = record {
   pass = pass;
 }
 
--- whether it is this job
 abbrev pub is_job : Option ℕ → ℕ → Bool
 is_job None j = false
 is_job (Some k) j = k == j
 
--- the jobs of a pass that begins at minute t, where this anacron job, or none, runs
+-- the jobs of a pass that begins at minute t, while this anacron job, or none, runs
 abbrev pub owed_beside : Plan → List (Option ℕ) → Option ℕ → ℕ → List ℕ
 owed_beside p ss lone t = filter (λ j.
     p.owed j (get_or ss (j - p.crons) None) (t / 1440) && not (is_job lone j)) (by_delay p)
 
--- the anacron job of which a run runs, if there is one
+-- the anacron job that runs, if there is one
 pub record IsLone (p : Plan) (runs : List Going) (lone : Option ℕ) : Type 0 where
   pub any : list_any (λ r. not (is_cron p r.run.job)) runs ≡ is_some lone
   pub which : (j : ℕ) → is_cron p j ≡ false → list_any (λ r. r.run.job == j) runs ≡ is_job lone j
 
--- what a core keeps besides its state, so that no event looks at every run
+-- what a core keeps besides its state, so that no event has to look at every run
 pub record IsKept (p : Plan) (s : State) (held wanted : Counts) (job : Option ℕ) : Type 0 where
-  -- runs have names of their own
+  -- runs have different names
   pub named : AreNamed p s
-  -- so many runs have each lock, so many wait for it
+  -- how many runs have each lock, and how many wait for it
   pub runs : IsCounted (going_holds p s.running) held
   pub waits : IsCounted (waiting_holds p s.waiting) wanted
   -- all that wait take a lock, and each group of the plan has its place

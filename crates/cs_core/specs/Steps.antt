@@ -15,7 +15,7 @@ adds_run Starts = true
 adds_run Waits = true
 adds_run Skips = false
 
--- whether an event adds a run to a list: all else takes no memory
+-- an event that adds a run to a list; all else takes no memory
 abbrev pub needs_memory : Plan → State → Event → Bool
 needs_memory p s (Minute t) = false
 needs_memory p s (Begin j) = adds_run (answer p s.running j)
@@ -25,7 +25,7 @@ needs_memory p s (End r) = false
 needs_memory p s Down = false
 needs_memory p s (Up t) = false
 
--- the effect of a call that takes an event not refused: all of it, or nothing if memory runs out
+-- a call that takes an event has all of its effect, or none if memory runs out
 abbrev pub Takes : Plan → State → Event → Result Reply Refusal → State → Type 0
 Takes p s e (Ok r) n = (r ≡ reply p s e) × (n ≡ after p s e)
 Takes p s e (Err f) n = (f ≡ OutOfMemory) × (n ≡ s)
@@ -35,7 +35,6 @@ abbrev pub TakesRun : {E : Type 0} → Plan → State → Event → Result Reply
 TakesRun p s e (Ok r) n = (r ≡ reply p s e) × (n ≡ after p s e)
 TakesRun p s e (Err f) n = n ≡ s
 
--- whether the Begin of a job starts a run
 abbrev pub is_start : Answer → Bool
 is_start Starts = true
 is_start Waits = false

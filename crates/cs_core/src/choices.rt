@@ -14,8 +14,8 @@ use std::alloc::{AllocError, Global};
 
 impl Core {
     /// Returns the events that may come next: Minute, then Begin, Got, Catch and End, each by job,
-    /// then minute, then Down or Up. `Up` with the present minute is listed for every later one
-    /// too. The only error is out of memory.
+    /// then minute, then Down or Up. `Up` is listed with the present minute, and stands for every
+    /// later one too.
     pub fn choices(&self, alloc: Global) -> Result<Sequence<Event>, AllocError>
         ensures { IfOk result (λ events. events ≡ choices (as_plan self.now.plan) self.now.state) }
     {
@@ -29,7 +29,7 @@ impl Core {
         Ok(events)
     }
 
-    /// All events that may come next, and more.
+    /// The events that could come next, among them all that may.
     fn candidates(&self, alloc: Global) -> Result<Sequence<Event>, AllocError>
         ensures { IfOk result (λ events. events ≡ candidates self.now.state) }
     {
@@ -84,7 +84,6 @@ fn add_ends(events: &mut Sequence<Event>, runs: &[Run]) -> Result<(), AllocError
     Ok(())
 }
 
-/// The names of runs, in their order.
 fn names(alloc: Global, runs: &Roster) -> Result<Vec<Run>, AllocError>
     ensures { IfOk result (λ listed. listed.items ≡ names runs.now) }
 {
@@ -95,7 +94,7 @@ fn names(alloc: Global, runs: &Roster) -> Result<Vec<Run>, AllocError>
     Ok(listed)
 }
 
-/// Checks whether a run comes before another, by job, then minute.
+/// Whether a run comes before another, by job, then minute.
 pub fn is_before(one: Run, other: Run) -> bool
     ensures { result ≡ is_before one other }
 {
@@ -115,7 +114,6 @@ fn place(runs: &[Run], run: Run) -> usize
     runs.len()
 }
 
-/// The runs by job, then minute.
 fn by_name(alloc: Global, runs: &[Run]) -> Result<Vec<Run>, AllocError>
     ensures { IfOk result (λ sorted. sorted.items ≡ by_name runs.now) }
 {

@@ -33,9 +33,9 @@ pub struct Core {
     pub(crate) running: Roster,
     /// How many running runs hold each lock.
     pub(crate) held: LockTable,
-    /// How many waiting runs want each lock.
+    /// How many waiting runs wait for each lock.
     pub(crate) wanted: LockTable,
-    /// The anacron job that runs, of which there is at most one.
+    /// The anacron job that runs; there is at most one.
     pub(crate) lone: Option<u16>,
     pub(crate) stamps: ArrayVec<Option<Day>, 64>,
     pub(crate) begun: Minute,
@@ -62,8 +62,8 @@ impl Model for Core {
 }
 
 impl Core {
-    /// Opens a core at a start: nothing runs, waits or is pending, and no pass is open. It copies
-    /// the plan. The only error is out of memory.
+    /// Opens a core, with a copy of the plan, at a start: nothing runs, waits or is pending, and no
+    /// pass is open.
     pub fn open(alloc: Global, plan: &Plan, start: Start) -> Result<Core, AllocError>
         requires { first_start ≤ start.now }
         ensures plan { IfOk result (λ core. core.plan ≡ plan.now) }
@@ -87,7 +87,7 @@ impl Core {
         })
     }
 
-    /// Checks the event: err is the refusal of [`step`](Core::step), unless that is `OutOfMemory`.
+    /// Answers whether [`step`](Core::step) would refuse the event, and why; `OutOfMemory` aside.
     pub fn test(&self, event: &Event) -> Result<(), Refusal>
         ensures { MatchResult result
             (λ _. refusal (as_plan self.now.plan) self.now.state event.now ≡ None)
@@ -122,7 +122,7 @@ impl Core {
         self.minute
     }
 
-    /// Checks whether the daemon is up.
+    /// Whether the daemon is up.
     pub fn is_up(&self) -> bool
         ensures { result ≡ self.now.state.up }
     {
@@ -152,7 +152,7 @@ impl Core {
         &self.running
     }
 
-    /// Returns how many runs run after the event, if it is accepted.
+    /// Returns how many runs are running after the event, if it is accepted.
     pub fn runs_after(&self, event: &Event) -> usize
         ensures { result ≡ length (after (as_plan self.now.plan) self.now.state event.now).running }
     {
@@ -174,7 +174,6 @@ impl Core {
         }
     }
 
-    /// How many runs go on when this one ends.
     fn runs_without(&self, run: Run) -> usize
         ensures { result ≡ length (others self.now.state.running run) }
     {
@@ -185,14 +184,12 @@ impl Core {
         }
     }
 
-    /// Whether the lock of the job is free for it.
     pub(crate) fn is_free(&self, job: u16) -> bool
         ensures { result ≡ is_free (as_plan self.now.plan) self.now.state.running job }
     {
         self.held.is_free(self.rules.hold(job))
     }
 
-    /// Whether the Begin of the job starts its run.
     fn starts(&self, job: u16) -> bool
         ensures { result ≡ is_start (answer (as_plan self.now.plan) self.now.state.running job) }
     {
@@ -239,7 +236,6 @@ impl Core {
     }
 }
 
-/// The stamps of a start, one for each anacron job of the plan.
 #[tactic(auto, using(crate::proofs::Order::few_anacron, crate::proofs::Stamps::next_stamp))]
 fn stamps_of(plan: &Plan, start: &Start) -> ArrayVec<Option<Day>, 64>
     ensures { result.items

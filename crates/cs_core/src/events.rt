@@ -23,7 +23,6 @@ use cs_roster::Roster;
 use std::alloc::AllocError;
 
 impl Core {
-    /// Takes the event, or returns the first refusal.
     pub(crate) fn take_unless_refused(&mut self, event: Event) -> Result<Reply, Refusal>
         ensures steps { Steps (as_plan self.old.plan) self.old.state event result self.new.state }
         ensures plan { self.new.plan ≡ self.old.plan }
@@ -36,7 +35,6 @@ impl Core {
         }
     }
 
-    /// Takes an event that is not refused.
     fn take(&mut self, event: Event) -> Result<Reply, Refusal>
         requires { refusal (as_plan self.old.plan) self.old.state event ≡ None }
         ensures takes { Takes (as_plan self.old.plan) self.old.state event result self.new.state }
@@ -97,7 +95,6 @@ impl Core {
         }
     }
 
-    /// The job's run starts now.
     fn begin_run(&mut self, job: u16) -> Result<Reply, AllocError>
         requires may { refusal (as_plan self.old.plan) self.old.state (event.Begin job) ≡ None }
         requires starts { answer (as_plan self.old.plan) self.old.state.running job ≡ Starts }
@@ -113,7 +110,6 @@ impl Core {
         Ok(Reply::Started(run))
     }
 
-    /// The job's run waits from now on.
     fn begin_waiting(&mut self, job: u16) -> Result<Reply, AllocError>
         requires may { refusal (as_plan self.old.plan) self.old.state (event.Begin job) ≡ None }
         requires waits { answer (as_plan self.old.plan) self.old.state.running job ≡ Waits }
@@ -131,7 +127,6 @@ impl Core {
         Ok(Reply::Waiting)
     }
 
-    /// The job's run is skipped.
     fn begin_skipped(&mut self, job: u16) -> Reply
         requires may { refusal (as_plan self.old.plan) self.old.state (event.Begin job) ≡ None }
         requires skips { answer (as_plan self.old.plan) self.old.state.running job ≡ Skips }
@@ -203,7 +198,7 @@ impl Core {
         take_run(&self.rules, &mut self.running, &mut self.held, run);
     }
 
-    /// Ends an anacron job's run; the job's stamp becomes the day on which the run started.
+    /// The job's stamp becomes the day on which the run started.
     fn end_anacron(&mut self, run: Run)
         requires may { refusal (as_plan self.old.plan) self.old.state (event.End run) ≡ None }
         requires anacron { is_cron (as_plan self.old.plan) run.job ≡ false }
@@ -218,7 +213,6 @@ impl Core {
         self.lone = None;
     }
 
-    /// Whether the run is within its declared time at this minute.
     fn is_in_time(&self, minute: u64, run: Run) -> bool
         ensures { result
             ≡ is_in_time (as_plan self.now.plan) minute run self.now.state.running }
@@ -268,7 +262,6 @@ impl Core {
     }
 }
 
-/// Begins a pass at a minute, unless one is open.
 fn open_pass(
     rules: &Rules,
     minute: Minute,
@@ -286,8 +279,7 @@ fn open_pass(
     }
 }
 
-/// Adds a run to those that run, or wait, and counts it at its lock. The only error is out of
-/// memory, which changes nothing.
+/// Adds a run to those that run or wait, and counts it at its lock.
 fn add_run(
     rules: &Rules,
     runs: &mut Roster,
@@ -306,7 +298,7 @@ fn add_run(
     Ok(())
 }
 
-/// Removes a run from those that run, or wait, and from the count of its lock.
+/// Removes a run from those that run or wait, and from the count of its lock.
 fn take_run(rules: &Rules, runs: &mut Roster, locks: &mut LockTable, run: Run)
     requires there { has runs.old run ≡ true }
     requires once { number_of (λ x. same_run run x.run) runs.old ≤ 1 }
@@ -319,7 +311,6 @@ fn take_run(rules: &Rules, runs: &mut Roster, locks: &mut LockTable, run: Run)
     locks.take(rules.hold(run.job));
 }
 
-/// Sets the stamp at this place to the day of a minute.
 fn set_stamp(stamps: &mut ArrayVec<Option<Day>, 64>, place: usize, minute: u64)
     requires { minute ≤ last_minute }
     ensures { stamps.new.items ≡ set stamps.old.items place (Some (minute / 1440)) }

@@ -1,4 +1,4 @@
-//! The event core: takes the events of a history, lists those that may come next, keeps the state.
+//! Takes the events of a history, lists those that may come next, and keeps the state.
 #![tactic(auto)]
 
 mod choices;

@@ -10,14 +10,12 @@ pub(crate) fn has_job(jobs: &[u16], job: u16) -> bool
     jobs.iter().any(|other| job == *other)
 }
 
-/// Takes the job from those that are pending.
 pub(crate) fn take_job(pending: &mut ArrayVec<u16, 256>, job: u16)
     ensures { pending.new.items ≡ filter (λ i. not (job == i)) pending.old.items }
 {
     pending.retain(|other| !(job == *other));
 }
 
-/// The stamp at a place of the list, None after its end.
 pub(crate) fn stamp_at(stamps: &[Option<Day>], place: usize) -> Option<Day>
     ensures { result ≡ get_or stamps.now place None }
 {

@@ -44,7 +44,6 @@ impl Core {
         None
     }
 
-    /// Whether nothing is pending, and no waiter's lock is free.
     fn is_settled(&self) -> bool
         ensures { result ≡ is_settled (as_plan self.now.plan) self.now.state }
     {
@@ -105,7 +104,6 @@ impl Core {
         None
     }
 
-    /// Whether anacron would start the job now.
     fn is_catchable(&self, job: u16) -> bool
         ensures { result ≡ is_catchable (as_plan self.now.plan) self.now.state job }
     {
@@ -117,7 +115,6 @@ impl Core {
             && minute_of_day < hours.to()
     }
 
-    /// Whether the job is the next of the pass, and its delay is over.
     fn is_turn(&self, job: u16) -> bool
         ensures { result
             ≡ is_turn (as_plan self.now.plan) self.now.state.now self.now.state.pass job }

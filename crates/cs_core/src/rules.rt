@@ -38,7 +38,6 @@ impl Model for Rules {
     ghost invariant = { λ r. r.order.items ≡ by_delay (as_plan r.plan) };
 }
 
-/// What a run in this mode does with the lock of this group.
 fn hold_in(mode: Mode, group: u8) -> Hold
     ensures { result ≡ hold_in (takes mode) (shares_in mode) (Some group) }
 {
@@ -50,7 +49,7 @@ fn hold_in(mode: Mode, group: u8) -> Hold
 }
 
 impl Rules {
-    /// The rules of a plan, of which they keep a copy.
+    /// The rules keep a copy of the plan.
     pub(crate) fn new(alloc: Global, plan: &Plan) -> Result<Rules, AllocError>
         ensures { IfOk result (λ rules. rules ≡ plan.now) }
     {
@@ -80,7 +79,6 @@ impl Rules {
         job < self.crons()
     }
 
-    /// How the job treats the lock of its group.
     pub(crate) fn mode(&self, job: u16) -> Mode
         ensures { result ≡ (as_plan self.now).mode job }
     {
@@ -110,7 +108,6 @@ impl Rules {
         }
     }
 
-    /// Whether the cron job is due at this minute of a day of this kind.
     fn is_due_on(&self, job: u16, day: DayKind, minute_of_day: u16) -> bool
         requires { minute_of_day < 1440 }
         ensures { (t : ℕ) → day ≡ kind (t / 1440) → minute_of_day ≡ t % 1440
@@ -125,7 +122,6 @@ impl Rules {
         }
     }
 
-    /// Replaces a list by the cron jobs that are due at a minute.
     pub(crate) fn list_due(&self, minute: Minute, pending: &mut ArrayVec<u16, 256>)
         ensures { pending.new.items ≡ due_at (as_plan self.now) minute }
     {
@@ -139,7 +135,6 @@ impl Rules {
         }
     }
 
-    /// Whether this minute is the declared pass minute of its day.
     pub(crate) fn is_pass_minute(&self, minute: Minute) -> bool
         ensures { result ≡ is_pass_minute (as_plan self.now) minute }
     {
@@ -156,7 +151,6 @@ impl Rules {
         delay(&self.plan, job)
     }
 
-    /// Whether the anacron job is due today.
     fn is_owed(&self, job: u16, stamp: Option<Day>, today: Day) -> bool
         ensures { result ≡ (as_plan self.now).owed job stamp today }
     {
@@ -167,8 +161,7 @@ impl Rules {
         }
     }
 
-    /// Writes the jobs of a pass that begins at a minute into an empty list. A job that runs, at
-    /// most one of the anacron jobs, isn't one of them.
+    /// Lists the jobs of a pass that begins at a minute, except the anacron job that runs.
     pub(crate) fn list_owed(
         &self,
         minute: Minute,
@@ -198,7 +191,6 @@ fn is_job(lone: Option<u16>, job: u16) -> bool
     }
 }
 
-/// The minutes that an anacron job waits after the start of a pass.
 fn delay(plan: &Plan, job: u16) -> u32
     ensures { result ≡ (as_plan plan.now).delay job }
 {
@@ -224,7 +216,6 @@ fn place(plan: &Plan, order: &[u16], job: u16) -> usize
     order.len()
 }
 
-/// The anacron jobs by delay, then line.
 #[tactic(auto, using(crate::proofs::Order::few_anacron, crate::proofs::Order::none_below, crate::proofs::Order::one_below))]
 fn by_delay(plan: &Plan) -> ArrayVec<u16, 64>
     ensures { result.items ≡ by_delay (as_plan plan.now) }

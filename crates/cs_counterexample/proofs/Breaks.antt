@@ -33,7 +33,6 @@ of_push p r (x ∷ qs) q e =
     let h = unless_some (clash p r.run.job x.run.job) (Together r.run x.run) (clash_of p r qs) e in
     ap (λ (b : Bool). if b then Some (Together r.run x.run) else clash_of p r (qs ++ q ∷ [])) h.0 ∙ of_push p r qs q h.1
 
--- one more run clashes with the first that it clashes with
 clash_push : (p : Plan) (rs : List Going) (q : Going) → first_clash p rs ≡ None → first_clash p (rs ++ q ∷ []) ≡ clash_before p rs q.run
 clash_push p [] q e = refl
 clash_push p (r ∷ rs) q e =
@@ -50,7 +49,6 @@ break_push p rs r since e =
     ap (λ o. option_or o (overload p (weight_of p rs + p.weight r.job))) (sym (clash_push p rs q h.0))
     ∙ ap (λ n. option_or (first_clash p (rs ++ q ∷ [])) (overload p n)) (sym (total_push (λ (x : Going). p.weight x.run.job) rs q))
 
--- with fewer runs nothing is broken that was not
 pub break-filter : (p : Plan) (t : Going → Bool) (rs : List Going) → break_among p rs ≡ None → break_among p (filter t rs) ≡ None
 break-filter p t rs e =
     let h = neither (first_clash p rs) (overload_of p rs) e in
@@ -63,7 +61,6 @@ begin_break p rs j t at_start Starts b s = s ∙ sym (or_none (break_among p (rs
 begin_break p rs j t at_start Waits b s = sym (none_or (break_among p rs) None b)
 begin_break p rs j t at_start Skips b s = sym (none_or (break_among p rs) (skip_shown p j t) b)
 
--- what is broken by an event that is replied to, where nothing was broken before
 pub break_is : (p : Plan) (s : State) (e : Event) (at_start : Option Shown) → break_among p s.running ≡ None → ((r : Run) (since : ℕ) → run_by e s.now ≡ Some r → at_start ≡ break_among p (s.running ++ record { run = r; since = since } ∷ [])) → break_by_reply p (reply p s e) (run_by e s.now) at_start ≡ break_from p s e
 break_is p s (Minute t) at_start b f = sym (none_or (break_among p s.running) None b)
 break_is p s (Begin j) at_start b f = begin_break p s.running j s.now at_start (answer p s.running j) b (f (run_of j s.now) s.now refl)
@@ -73,15 +70,12 @@ break_is p s (End r) at_start b f = sym (none_or (break_among p (filter (λ x. n
 break_is p s Down at_start b f = sym (none_or (break_among p s.running) None b)
 break_is p s (Up t) at_start b f = sym (none_or (break_among p s.running) None b)
 
--- so what was broken first stays known
 pub shown_next : (p : Plan) (s : State) (e : Event) (shown : Option Shown) → (shown ≡ None → break_among p s.running ≡ None) → option_or shown (break_by_reply p (reply p s e) (run_by e s.now) (break_by_start p shown s.running (run_by e s.now))) ≡ option_or shown (break_from p s e)
 shown_next p s e (Some x) b = refl
 shown_next p s e None b = break_is p s e (break_by_start p None s.running (run_by e s.now)) (b refl) (λ r since is. ap (λ o. break_by_start p None s.running o) is ∙ break_push p s.running r since (b refl))
 
--- and while none is nothing is broken
 pub quiet_next : (p : Plan) (s : State) (e : Event) (shown : Option Shown) → option_or shown (break_from p s e) ≡ None → break_among p (after p s e).running ≡ None
 quiet_next p s e shown n = (neither (break_among p (after p s e).running) (skip_by p s.running s.now e) (neither shown (break_from p s e) n).1).0
 
--- what breaks nothing is within the capacity
 pub light : (p : Plan) (rs : List Going) → break_among p rs ≡ None → weight_of p rs ≤ p.capacity
 light p rs e = light_if p rs (neither (first_clash p rs) (overload_of p rs) e).1

@@ -1,4 +1,3 @@
--- Runs that are over their declared time.
 use Rattle.std.proofs.Common.{ℕ, ◌+◌, ◌<◌, ◌≤◌, ◌≡◌, true, false, not, List, [], ◌∷◌, ◌++◌, arith, nat_le}
 use Rattle.std.specs.List.{AllByRecursion}
 use Rattle.std.proofs.lemmas.Bool.{leb-true, leb-false, lt-leb}
@@ -26,7 +25,6 @@ begin_deadline p d n rs j t Starts a l = deadline_push p n rs (going j t t) (soo
 begin_deadline p d n rs j t Waits a l = sooner p d n rs a (omega (arith, l))
 begin_deadline p d n rs j t Skips a l = sooner p d n rs a (omega (arith, l))
 
--- the deadline moves on with the events
 pub deadline_next : (p : Plan) (s : State) (e : Event) (d n : ℕ) → IsDeadline p d s.running → IsNextDeadline p d (reply p s e) s.now n → IsDeadline p n (after p s e).running
 deadline_next p s (Minute t) d n a l = sooner p d n s.running a (omega (arith, l))
 deadline_next p s (Begin j) d n a l = begin_deadline p d n s.running j s.now (answer p s.running j) a l

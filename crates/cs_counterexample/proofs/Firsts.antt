@@ -24,7 +24,6 @@ either : (a b : Option Shown) (s : Shown) → option_or a b ≡ Some s → (a �
 either None b s e = inr (refl, e)
 either (Some x) b s e = inl e
 
--- the first of these with which the run may not go on
 record HasNext (p : Plan) (r : Going) (qs : List Going) (s : Shown) : Type 0 where
   between : List Going
   other : Going
@@ -52,7 +51,6 @@ all_left : {X : Type 0} (P : X → Type 0) (xs ys : List X) → AllByRecursion P
 all_left P [] ys a = tt
 all_left P (x ∷ xs) ys a = (a.0, all_left P xs ys a.1)
 
--- the first two
 record HasPair (p : Plan) (rs : List Going) (s : Shown) : Type 0 where
   r : Run
   q : Run
@@ -130,7 +128,6 @@ breaks_of p h e s b =
     (λ (a : (break_among p rs ≡ None) × (skip_by p (running p h) (now h) e ≡ Some s)). skip_breaks p h e s (safe_now_if p (h ▸ e) a.0) a.1)
     (either (break_among p rs) (skip_by p (running p h) (now h) e) s b)
 
--- the first break of a history is what its first event that breaks something breaks
 pub first_is : (p : Plan) (h : History) (s : Shown) → first_break p h ≡ Some s → IsFirstBreak p h s
 first_is p (From x) s e = absurd (none_some s e)
 first_is p (h ▸ e) s f =

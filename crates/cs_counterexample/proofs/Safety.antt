@@ -106,6 +106,5 @@ if_safe p (h ▸ e) s =
     both_none (first_break p h) (break_by p h e) (if_safe p h s.0)
     (both_none (break_among p (running p (h ▸ e))) (skip_by p (running p h) (now h) e) (if_safe_now p (h ▸ e) s.1) (if_no_skip p h e s.2))
 
--- a history breaks nothing exactly where it is safe
 pub unbroken : (p : Plan) (h : History) → (first_break p h ≡ None) ↔ IsSafe p h
 unbroken p h = (safe_if p h, if_safe p h)

@@ -1,4 +1,3 @@
--- A script that is tried event by event: where it stops, and what it ends with.
 use Rattle.std.proofs.Common.{ℕ, ◌+◌, ◌<◌, ◌≤◌, ◌≡◌, true, List, [], ◌∷◌, ◌++◌, refl, sym, ap, ◌∙◌, subst, arith, Option, Some, None, Result, Ok, Err, length, take, drop, get_or, suc, fold}
 use Rattle.std.specs.Prelude.{IfErr, IsErrAnd}
 use Rattle.std.proofs.lemmas.List.{take-append-drop, length-take-le, take_more}
@@ -23,7 +22,6 @@ use Rattle.cs_counterexample.proofs.Deadlines.{late_not_in_time}
 use Rattle.cs_counterexample.proofs.Safety.{safe_if, if_safe}
 use Rattle.cs_counterexample.proofs.Trials.{IsTrial, trial_push}
 
--- where an event is not taken
 is_at : (script : Script) (i : ℕ) (y : Event) → i < length script.events → IsAt script (i + 1) (history script.start (take i script.events)) (get_or script.events i y)
 is_at script i y l = record {
   front = take i script.events;
@@ -58,7 +56,6 @@ late_at d script i n e t at k s =
       late = late_not_in_time p h e late;
     }
 
--- what stops the trial is why nothing is shown
 stops_there : (d : Declared) (script : Script) (i : ℕ) (e : Event) (t : Tried) (f : NotShown) → IsAt script (i + 1) (history script.start (take i script.events)) e → IsTrial d script.start (take i script.events) t → Stops (as_plan d) t.state e (i + 1) f → IsNotShown (as_plan d) script f
 stops_there d script i e t (Illegal n f) at k s = illegal_at d script i n e t f at k s
 stops_there d script i e t (Late n) at k s = late_at d script i n e t at k s
@@ -71,20 +68,17 @@ why_here d script i y t f l k s = stops_there d script i (get_or script.events i
 pub why_not : (d : Declared) (script : Script) (xs : List Event) (i : ℕ) (y : Event) (t : Tried) (f : NotShown) → xs ≡ script.events → i < length xs → IsTrial d script.start (take i script.events) t → Stops (as_plan t.plan) t.state (get_or xs i y) (i + 1) f → IsNotShown (as_plan d) script f
 why_not d script xs i y t f same l k s = why_here d script i y t f (subst (λ (zs : List Event). i < length zs) same l) k (subst (λ (zs : List Event). Stops (as_plan t.plan) t.state (get_or zs i y) (i + 1) f) same s)
 
--- what goes on in the loop
 goes_here : (d : Declared) (script : Script) (i : ℕ) (y : Event) (t u : Tried) → i < length script.events → IsTrial d script.start (take i script.events) t → IsTaken (as_plan t.plan) (get_or script.events i y) t u → IsTrial d script.start (take (i + 1) script.events) u
 goes_here d script i y t u l k s = subst (λ (zs : List Event). IsTrial d script.start zs u) (sym (take_more script.events i y l)) (trial_push d script.start (take i script.events) (get_or script.events i y) t u k (subst (λ (x : Declared). IsTaken (as_plan x) (get_or script.events i y) t u) k.plan s))
 
 pub goes_on : (d : Declared) (script : Script) (xs : List Event) (i : ℕ) (y : Event) (t u : Tried) → xs ≡ script.events → i < length xs → IsTrial d script.start (take i script.events) t → IsTaken (as_plan t.plan) (get_or xs i y) t u → IsTrial d script.start (take (i + 1) script.events) u
 goes_on d script xs i y t u same l k s = goes_here d script i y t u (subst (λ (zs : List Event). i < length zs) same l) k (subst (λ (zs : List Event). IsTaken (as_plan t.plan) (get_or zs i y) t u) same s)
 
--- and what it ends with
 pub ends : (d : Declared) (script : Script) (xs : List Event) (i : ℕ) (t : Tried) → xs ≡ script.events → length xs ≤ i → i ≤ length xs → IsTrial d script.start (take i script.events) t → IsTrial d script.start script.events t
 ends d script xs i t same l m k =
     let long : i ≡ length script.events = subst (λ (zs : List Event). i ≡ length zs) same (omega (arith, l, m)) in
     subst (λ (zs : List Event). IsTrial d script.start zs t) (ap (λ n. take n script.events) long ∙ take-length script.events) k
 
--- a break is shown
 pub shows : (d : Declared) (script : Script) (t : Tried) (o : Option Shown) (s : Shown) → IsTrial d script.start script.events t → o ≡ t.shown → o ≡ Some s → IsShown (as_plan d) script s
 shows d script t o s k a b =
     let found : first_break (as_plan d) (history_of script) ≡ Some s = sym k.shown ∙ sym a ∙ b in
@@ -96,11 +90,10 @@ shows d script t o s k a b =
     none_some : (s : Shown) → None ≡ Some s → ⊥
     none_some s e = cc
 
--- without one the script is harmless
 pub shows_not : (d : Declared) (script : Script) (t : Tried) (o : Option Shown) → IsTrial d script.start script.events t → o ≡ t.shown → o ≡ None → IsHarmless (as_plan d) script
 shows_not d script t o k a b = record { legal = k.legal; in_time = k.in_time; safe = safe_if (as_plan d) (history_of script) (sym k.shown ∙ sym a ∙ b) }
 
--- the events before one of a legal history are legal, and so with those in time
+-- the events before one of a legal history are legal; so of those in time
 pub legal_before : (p : Plan) (h : History) (es : List Event) → IsLegal p (fold (λ h e. h ▸ e) h es) → IsLegal p h
 legal_before p h [] l = l
 legal_before p h (e ∷ es) l = (legal_before p (h ▸ e) es l).0
@@ -133,7 +126,6 @@ not_unsafe p script (Late n) k u = absurd (k.late (in_time_before p (k.before �
 not_unsafe p script NothingBroken k u = absurd (u.unsafe k.safe)
 not_unsafe p script OutOfMemory k u = refl
 
--- an error that is handed on
 pub if_err : (r : Result Shown NotShown) (f : NotShown) (P : NotShown → Type 0) → IsErrAnd r (λ e. e ≡ f) → P f → IfErr r P
 if_err (Ok s) f P e p = tt
 if_err (Err g) f P e p = subst P (sym e) p

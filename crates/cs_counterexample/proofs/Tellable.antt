@@ -24,7 +24,6 @@ use Rattle.cs_counterexample.proofs.Trials.{IsTrial}
 use Rattle.cs_plan.specs.Plan.{Declared, as_plan}
 use Rattle.cs_counterexample.specs.Trial.{Tried}
 
--- each run that runs or waits is one
 record AreOf (p : Plan) (rs : List Going) (ws : List Run) : Type 0 where
   runs : AllByRecursion (λ r. IsRunOf p r.run) rs
   waits : AllByRecursion (IsRunOf p) ws
@@ -71,7 +70,6 @@ tell p c h e (Skipped j t) l b =
     let m = subst (λ x. IsLegal p (h ▸ x)) b.begin l in
     (pending_cron p h j m.0 m.1.is_pending, subst IsReached (sym b.due) (reached p h m.0))
 
--- of a legal history
 pub tellable : (p : Plan) → p.crons ≤ p.jobs → (h : History) (s : Shown) → IsLegal p h → first_break p h ≡ Some s → IsTellable p s
 tellable p c h s l f =
     let k = first_is p h s f in

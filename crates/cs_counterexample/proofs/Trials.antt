@@ -12,7 +12,6 @@ use Rattle.cs_counterexample.specs.Break.{break_among, skip_by, break_by, first_
 use Rattle.cs_counterexample.specs.Trial.{Tried, IsTaken, break_from, is_late}
 use Rattle.cs_counterexample.proofs.Deadlines.{in_time_if}
 
--- the trial after these events
 pub record IsTrial (d : Declared) (start : Start) (es : List Event) (t : Tried) : Type 0 where
   pub plan : t.plan ≡ d
   pub state : t.state ≡ state_of (as_plan d) (history start es)
@@ -26,7 +25,6 @@ history_push start es e = fold_push (λ h e. h ▸ e) (From start) es e
 break_from_history : (p : Plan) (h : History) (e : Event) → break_from p (state_of p h) e ≡ break_by p h e
 break_from_history p h e = ap (λ (s : State). option_or (break_among p s.running) (skip_by p (running p h) (now h) e)) (sym (stands p h e))
 
--- one event more
 pub trial_push : (d : Declared) (start : Start) (es : List Event) (e : Event) (old new : Tried) → IsTrial d start es old → IsTaken (as_plan d) e old new → IsTrial d start (es ++ e ∷ []) new
 trial_push d start es e old new i k =
     let p = as_plan d in

@@ -13,7 +13,7 @@ use Rattle.cs_counterexample.specs.Break.{clash, weight_of}
 use Rattle.cs_counterexample.specs.declared.shown.Shown.{Shown}
 use Rattle.cs_counterexample.specs.declared.shown.Shown.TheVariants.{Together, Load, Skipped}
 
--- two runs that may go on at once, the first having started first
+-- two runs that may go on at once, of which the first started first
 abbrev pub AreFine : Plan → Going → Going → Type 0
 AreFine p r q = clash p r.run.job q.run.job ≡ false
 
@@ -41,7 +41,7 @@ pub record IsOverload (p : Plan) (rs : List Going) (n : ℕ) : Type 0 where
   pub more : p.capacity < n
 
 -- the event begins job j, of mode skip, at minute t; it finds its lock held and is skipped; what
--- runs then may
+-- runs then breaks nothing
 pub record IsSkip (p : Plan) (h : History) (e : Event) (j t : ℕ) : Type 0 where
   pub safe : IsSafeNow p (h ▸ e)
   pub begin : e ≡ Begin j

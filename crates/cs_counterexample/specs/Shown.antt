@@ -1,4 +1,4 @@
--- Which scripts show a plan unsafe, and why another one does not.
+-- Which scripts show a plan unsafe, and why another doesn't.
 use Rattle.std.specs.Prelude.{◌≡◌, ℕ, ◌+◌, ◌<◌, true, List, ◌∷◌, ◌++◌, Some, length, ⊤}
 use Rattle.cs_history.specs.Plan.{Plan, is_cron, IsReached}
 use Rattle.cs_history.specs.History.{History, history, ◌▸◌, IsLegal, IsInTime, IsSafe}
@@ -17,7 +17,8 @@ use Rattle.cs_counterexample.specs.declared.shown.NotShown.TheVariants.{Illegal,
 abbrev pub history_of : Script → History
 history_of script = history script.start script.events
 
--- each event of the script is legal, each run has ended in declared time, and something is broken
+-- each event of the script is legal, each run ends within its declared time, and something is
+-- broken
 pub record IsUnsafe (p : Plan) (script : Script) : Type 0 where
   pub legal : IsLegal p (history_of script)
   pub in_time : IsInTime p (history_of script)
@@ -28,7 +29,7 @@ pub record IsShown (p : Plan) (script : Script) (s : Shown) : Type 0 where
   pub unsafe : IsUnsafe p script
   pub first : first_break p (history_of script) ≡ Some s
 
--- the event of this number, counted from 1, comes after the history h
+-- the event with this number, counted from 1, comes after the history h
 pub record IsAt (script : Script) (n : ℕ) (h : History) (e : Event) : Type 0 where
   pub front : List Event
   pub rest : List Event
@@ -36,7 +37,7 @@ pub record IsAt (script : Script) (n : ℕ) (h : History) (e : Event) : Type 0 w
   pub number : n ≡ length front + 1
   pub before : h ≡ history script.start front
 
--- the event of this number is refused so, after a history that may be and is in time
+-- the event with this number is refused so, after a history that is legal and in time
 pub record IsIllegalAt (p : Plan) (script : Script) (n : ℕ) (f : Refusal) : Type 0 where
   pub before : History
   pub event : Event
@@ -45,7 +46,7 @@ pub record IsIllegalAt (p : Plan) (script : Script) (n : ℕ) (f : Refusal) : Ty
   pub in_time : IsInTime p before
   pub refused : refusal p (state_of p before) event ≡ Some f
 
--- with the event of this number the history may be still, and for the first time is not in time
+-- with the event with this number the history is still legal, and for the first time not in time
 pub record IsLateAt (p : Plan) (script : Script) (n : ℕ) : Type 0 where
   pub before : History
   pub event : Event
@@ -54,7 +55,7 @@ pub record IsLateAt (p : Plan) (script : Script) (n : ℕ) : Type 0 where
   pub in_time : IsInTime p before
   pub late : IsInTime p (before ▸ event) → ⊥
 
--- the whole of the script may be and is in time, and breaks nothing
+-- the whole script is legal and in time, and breaks nothing
 pub record IsHarmless (p : Plan) (script : Script) : Type 0 where
   pub legal : IsLegal p (history_of script)
   pub in_time : IsInTime p (history_of script)
@@ -71,7 +72,7 @@ IsNotShown p script OutOfMemory = ⊤
 abbrev pub IsRunOf : Plan → Run → Type 0
 IsRunOf p r = (r.job < p.jobs) × IsReached r.at
 
--- what is shown has a text: it has such runs, and as skipped one a run of a cron job
+-- what is shown has a text: it has such runs, and a skipped one is of a cron job
 abbrev pub IsTellable : Plan → Shown → Type 0
 IsTellable p (Together r q) = IsRunOf p r × IsRunOf p q
 IsTellable p (Load n) = ⊤

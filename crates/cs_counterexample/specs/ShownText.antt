@@ -1,4 +1,3 @@
--- The text of what a script breaks.
 use Rattle.std.specs.Prelude.{ℕ, List, ◌++◌, codes, nat_lt, if◌then◌else◌}
 use Rattle.std.specs.Fmt.{decimal}
 use Rattle.cs_civil.specs.Text.{minute_text}
@@ -13,31 +12,25 @@ use Rattle.cs_counterexample.specs.declared.shown.Shown.TheVariants.{Together, L
 unfoldable pub at_name : Declared → ℕ → List ℕ
 at_name d j = codes "job " ++ (identifier_of d j ++ codes " at ")
 
--- the one of a cron job, the other of an anacron job
+-- `line N due ` of a cron job, `job ID at ` of an anacron job
 abbrev pub run_name : Declared → ℕ → List ℕ
 run_name d j = if nat_lt j (crons d) then due_name d j else at_name d j
 
--- a run by its job and its minute
 unfoldable pub run_text : Declared → Run → List ℕ
 run_text d r = run_name d r.job ++ minute_text r.at
 
--- two runs
 unfoldable pub both_text : Declared → Run → Run → List ℕ
 both_text d r q = run_text d r ++ (codes " and " ++ run_text d q)
 
--- two runs that go on at once
 unfoldable pub together_text : Declared → Run → Run → List ℕ
 together_text d r q = both_text d r q ++ codes " run together"
 
--- a weight and the capacity
 unfoldable pub load_text : Declared → ℕ → List ℕ
 load_text d n = codes "load " ++ (decimal n ++ (codes " of " ++ decimal d.capacity))
 
--- a run that was skipped
 unfoldable pub skip_text : Declared → Run → List ℕ
 skip_text d r = run_text d r ++ codes " is skipped"
 
--- what is broken
 abbrev pub break_text : Declared → Shown → List ℕ
 break_text d (Together r q) = together_text d r q
 break_text d (Load n) = load_text d n

@@ -1,4 +1,3 @@
--- A history that is tried event by event.
 use Rattle.std.specs.Prelude.{◌≡◌, ℕ, ◌+◌, ◌≤◌, Bool, true, false, List, [], ◌∷◌, Option, Some, None, if◌then◌else◌, nat_le, ⊤}
 use Rattle.std.specs.List.{AllByRecursion, list_any}
 use Rattle.std.specs.Option.{option_or}
@@ -34,7 +33,7 @@ opening d start = record { plan = d; state = state_of (as_plan d) (From start); 
 abbrev pub any_over : Plan → List Going → ℕ → Bool
 any_over p rs t = list_any (λ r. nat_le (r.since + p.limit r.run.job) t) rs
 
--- the event finds such a run
+-- the event finds such a run; time passes only at a minute and at a coming up
 abbrev pub is_late : Plan → List Going → Event → Bool
 is_late p rs (Minute t) = any_over p rs t
 is_late p rs (Begin j) = false
@@ -56,14 +55,13 @@ pub record IsTaken (p : Plan) (e : Event) (old new : Tried) : Type 0 where
   pub state : new.state ≡ after p old.state e
   pub shown : new.shown ≡ option_or old.shown (break_from p old.state e)
 
--- why the event of this number is not taken
+-- why the event with this number isn't taken
 abbrev pub Stops : Plan → State → Event → ℕ → NotShown → Type 0
 Stops p s e n (Illegal k f) = (k ≡ n) × (refusal p s e ≡ Some f)
 Stops p s e n (Late k) = (k ≡ n) × (refusal p s e ≡ None) × (is_late p s.running e ≡ true)
 Stops p s e n NothingBroken = ⊥
 Stops p s e n OutOfMemory = ⊤
 
--- the run that the event may start
 abbrev pub run_by : Event → ℕ → Option Run
 run_by (Minute t) now = None
 run_by (Begin j) now = Some (run_of j now)
@@ -73,13 +71,12 @@ run_by (End r) now = None
 run_by Down now = None
 run_by (Up t) now = None
 
--- the first of these with which the run may not go on
 abbrev pub clash_before : Plan → List Going → Run → Option Shown
 clash_before p [] q = None
 clash_before p (r ∷ rs) q =
     if clash p r.run.job q.job then Some (Together r.run q) else clash_before p rs q
 
--- what it breaks that the run starts after these, which break nothing
+-- what the run breaks by starting after these, which break nothing
 abbrev pub break_by_run : Plan → List Going → Run → Option Shown
 break_by_run p rs r = option_or (clash_before p rs r) (overload p (weight_of p rs + p.weight r.job))
 
@@ -89,16 +86,15 @@ break_by_start p (Some s) rs run = None
 break_by_start p None rs None = None
 break_by_start p None rs (Some r) = break_by_run p rs r
 
--- the same of a trial
 abbrev pub break_at_start : Tried → Option Run → Option Shown
 break_at_start t run = break_by_start (as_plan t.plan) t.shown t.state.running run
 
--- what it breaks that the run is skipped, if it is one
+-- what the run breaks by being skipped
 abbrev pub break_by_skip : Plan → Option Run → Option Shown
 break_by_skip p None = None
 break_by_skip p (Some r) = skip_shown p r.job r.at
 
--- what an event breaks that is so replied to, where its run would break at_start
+-- what an event with this reply breaks, if its run would break `at_start`
 abbrev pub break_by_reply : Plan → Reply → Option Run → Option Shown → Option Shown
 break_by_reply p replies.Clock run at_start = None
 break_by_reply p (replies.Started r) run at_start = at_start
@@ -112,12 +108,12 @@ break_by_reply p replies.Came run at_start = None
 abbrev pub IsDeadline : Plan → ℕ → List Going → Type 0
 IsDeadline p d rs = AllByRecursion (λ r. d ≤ r.since + p.limit r.run.job) rs
 
--- what a trial knows of the runs that run: a deadline, and that they break nothing while nothing is
--- known to be broken
+-- what a trial knows of the runs: a deadline, and that they break nothing while nothing is known to
+-- be broken
 abbrev pub Watches : Plan → ℕ → Option Shown → List Going → Type 0
 Watches p d shown rs = IsDeadline p d rs × (shown ≡ None → break_among p rs ≡ None)
 
--- the deadline after an event that is so replied to
+-- the deadline after an event with this reply
 abbrev pub IsNextDeadline : Plan → ℕ → Reply → ℕ → ℕ → Type 0
 IsNextDeadline p d (replies.Started r) now n = (n ≤ d) × (n ≤ now + p.limit r.job)
 IsNextDeadline p d replies.Clock now n = n ≡ d
@@ -127,7 +123,6 @@ IsNextDeadline p d (replies.Ended b) now n = n ≡ d
 IsNextDeadline p d replies.Went now n = n ≡ d
 IsNextDeadline p d replies.Came now n = n ≡ d
 
--- what a refusal stops the trial with
 abbrev pub fault_of : ℕ → Refusal → NotShown
 fault_of n refusals.OutOfMemory = OutOfMemory
 fault_of n f = Illegal n f

@@ -1,5 +1,5 @@
-//! What an event breaks: by the run that it starts, or by one of mode skip that is skipped. No other
-//! event breaks anything, since fewer runs break no more.
+//! What an event breaks: by the run that it starts, or by one of mode skip that is skipped. No
+//! other event breaks anything, since fewer runs break no more.
 ghost use Rattle.std.specs.Prelude.{◌≡◌, ◌≤◌, ◌<◌};
 ghost use Rattle.cs_plan.specs.Plan.{as_plan};
 ghost use Rattle.cs_counterexample.specs.Break.{weight_of};
@@ -11,7 +11,6 @@ use cs_history::{Event, Reply, Run};
 use cs_plan::Plan;
 use cs_roster::Roster;
 
-/// The run that the event may start at this minute.
 pub(crate) fn run_by(event: &Event, now: u64) -> Option<Run>
     ensures { result ≡ run_by event.now now }
 {
@@ -26,7 +25,6 @@ pub(crate) fn run_by(event: &Event, now: u64) -> Option<Run>
     }
 }
 
-/// The first of these with which the run clashes.
 fn clash_before(plan: &Plan, earlier: &Roster, run: Run) -> Option<Shown>
     ensures { result ≡ clash_before (as_plan plan.now) earlier.now run }
 {
@@ -38,7 +36,6 @@ fn clash_before(plan: &Plan, earlier: &Roster, run: Run) -> Option<Shown>
     None
 }
 
-/// What the runs weigh together.
 fn weigh(plan: &Plan, running: &Roster) -> u64
     requires { weight_of (as_plan plan.now) running.now < 256 }
     ensures { result ≡ weight_of (as_plan plan.now) running.now }
@@ -50,7 +47,6 @@ fn weigh(plan: &Plan, running: &Roster) -> u64
     sum
 }
 
-/// What the run breaks if it starts after these, which break nothing.
 pub(crate) fn break_by_run(plan: &Plan, earlier: &Roster, run: Run) -> Option<Shown>
     requires { weight_of (as_plan plan.now) earlier.now ≤ (as_plan plan.now).capacity }
     ensures { result ≡ break_by_run (as_plan plan.now) earlier.now run }
@@ -66,7 +62,6 @@ pub(crate) fn break_by_run(plan: &Plan, earlier: &Roster, run: Run) -> Option<Sh
     None
 }
 
-/// What it breaks that the run is skipped, if it is one: nothing, unless it is of mode skip.
 fn break_by_skip(plan: &Plan, run: Option<Run>) -> Option<Shown>
     ensures { result ≡ break_by_skip (as_plan plan.now) run }
 {
@@ -76,7 +71,6 @@ fn break_by_skip(plan: &Plan, run: Option<Run>) -> Option<Shown>
     }
 }
 
-/// What an event with this reply breaks, if its run would break `at_start`.
 pub(crate) fn break_by_reply(
     plan: &Plan,
     reply: Reply,

@@ -9,14 +9,13 @@ use cs_history::{Going, Reply};
 use cs_plan::Plan;
 use cs_roster::Roster;
 
-/// The first minute at which the run is over its declared time, if a `u64` can hold it.
+/// The first minute at which the run is over its declared time, or the greatest `u64`.
 fn end_of(plan: &Plan, job: u16, since: u64) -> u64
     ensures { result ≤ since + (as_plan plan.now).limit job }
 {
     since.saturating_add(limit(plan, job))
 }
 
-/// A deadline of these runs.
 pub(crate) fn first_deadline(plan: &Plan, running: &Roster) -> u64
     ensures { IsDeadline (as_plan plan.now) result running.now }
 {
@@ -27,7 +26,7 @@ pub(crate) fn first_deadline(plan: &Plan, running: &Roster) -> u64
     first
 }
 
-/// The deadline after an event with this reply. A run that ends may leave it too low.
+/// A run that ends may leave the deadline too low.
 pub(crate) fn deadline_of(plan: &Plan, deadline: u64, reply: Reply, now: u64) -> u64
     ensures { IsNextDeadline (as_plan plan.now) deadline reply now result }
 {
@@ -42,14 +41,12 @@ pub(crate) fn deadline_of(plan: &Plan, deadline: u64, reply: Reply, now: u64) ->
     }
 }
 
-/// Whether the run is over its declared time.
 fn is_over(plan: &Plan, going: Going, minute: u64) -> bool
     ensures { result ≡ nat_le (going.since + (as_plan plan.now).limit going.run.job) minute }
 {
     minute >= going.since && minute - going.since >= limit(plan, going.run.job)
 }
 
-/// Whether one of these is over its declared time.
 pub(crate) fn any_over(plan: &Plan, running: &Roster, minute: u64) -> bool
     ensures { result ≡ any_over (as_plan plan.now) running.now minute }
 {

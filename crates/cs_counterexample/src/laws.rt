@@ -9,8 +9,6 @@ ghost use Rattle.cs_counterexample.specs.FirstBreak.{IsFirstBreak};
 /// first event that breaks something.
 #[tactic(auto, using(crate::proofs::Safety::unbroken, crate::proofs::Firsts::first_is))]
 pub fn first_breaks()
-
-    // it breaks nothing exactly if it is safe
     ensures none { (p : Plan) (h : History) → (first_break p h ≡ None) ↔ IsSafe p h }
 
     // else the first break is that of the first event that breaks something: two runs before their

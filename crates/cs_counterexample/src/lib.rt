@@ -1,4 +1,4 @@
-//! Scripts that show a plan unsafe, and what they break first.
+//! Tries scripts that may show a plan unsafe, and says what they break first.
 #![tactic(auto)]
 
 mod breaking;

@@ -14,18 +14,16 @@ use std::alloc::Global;
 /// run ends within its declared time, and something is broken. Returns what is broken first. The
 /// script starts at 1970-01-04 00:00 or later.
 ///
-/// err: the first event that is refused or, being legal, finds a run that has passed its declared
-/// time; or `NothingBroken`; `OutOfMemory` only if memory runs out.
+/// The error is the first event that is refused, or is legal and finds a run that has passed its
+/// declared time; else `NothingBroken`; or `OutOfMemory` if memory runs out.
 pub fn prove_unsafe(alloc: Global, plan: &Plan, script: &Script) -> Result<Shown, NotShown>
     requires { first_start ≤ script.now.start.now }
 
-    // the whole script is legal, in time and not safe, and this is broken first
     ensures shown { IfOk result (IsShown (as_plan plan.now) script.now) }
 
-    // else this is why
     ensures not_shown { IfErr result (IsNotShown (as_plan plan.now) script.now) }
 
-    // and each such script is shown unless memory runs out
+    // each script that shows the plan unsafe is shown, unless memory runs out
     ensures exact { IsUnsafe (as_plan plan.now) script.now → IsOkUnless result OutOfMemory }
 
     // what is shown has runs of the plan, at minutes that a history may reach

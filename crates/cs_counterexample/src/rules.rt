@@ -1,4 +1,4 @@
-//! The plan's rules for jobs by number; past the last job, those of a history.
+//! The plan's rules for jobs by number. Past the last job they are those of a history.
 ghost use Rattle.std.specs.Prelude.{◌≡◌};
 ghost use Rattle.cs_plan.specs.Plan.{as_plan};
 ghost use Rattle.cs_history.specs.Plan.{is_skip, same_group};
@@ -18,14 +18,12 @@ pub(crate) fn weight(plan: &Plan, job: u16) -> u8
     plan.job_at(job).weight()
 }
 
-/// Whether a run of the job breaks the plan by being skipped.
 pub(crate) fn is_skip(plan: &Plan, job: u16) -> bool
     ensures { result ≡ is_skip ((as_plan plan.now).mode job) }
 {
     plan.job_at(job).mode().is_skip()
 }
 
-/// The job's declared time, in minutes.
 pub(crate) fn limit(plan: &Plan, job: u16) -> u64
     ensures { result ≡ (as_plan plan.now).limit job }
 {
@@ -41,7 +39,6 @@ fn is_same_group(plan: &Plan, one: u16, other: u16) -> bool
     }
 }
 
-/// Whether runs of the two jobs may not overlap.
 pub(crate) fn clash(plan: &Plan, one: u16, other: u16) -> bool
     ensures { result ≡ clash (as_plan plan.now) one other }
 {

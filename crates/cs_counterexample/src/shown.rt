@@ -12,8 +12,8 @@ pub enum Shown {
     Together(Run, Run),
     /// The runs weigh this much, which exceeds the capacity.
     Load(u64),
-    /// The job of this number and of mode skip, due at this civil minute, finds its lock held and is
-    /// skipped.
+    /// The job of this number and of mode skip, due at this civil minute, finds its lock held and
+    /// is skipped.
     Skipped(u16, u64),
 }
 

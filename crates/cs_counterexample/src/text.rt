@@ -1,4 +1,3 @@
-//! The text of what a script breaks.
 ghost use Rattle.std.specs.Prelude.{◌≡◌, ◌++◌, IfOk, OnOk};
 ghost use Rattle.cs_plan.specs.Plan.{as_plan};
 ghost use Rattle.cs_history.specs.Plan.{IsReached};
@@ -12,7 +11,6 @@ use cs_history::Run;
 use cs_plan::{Plan, identifier_of, push_due_name};
 use std::alloc::{AllocError, Global};
 
-/// Adds `job ID at `.
 #[tactic(auto, unfolding(crate::specs::ShownText::at_name))]
 fn push_at(text: &mut Vec<u8>, plan: &Plan, job: usize) -> Result<(), AllocError>
     ensures { OnOk result (text.new.items ≡ text.old.items ++ at_name plan.now job) }
@@ -39,7 +37,6 @@ pub fn push_run_name(
     }
 }
 
-/// Adds a run: its job and its minute.
 #[tactic(auto, unfolding(crate::specs::ShownText::run_text))]
 fn push_run(alloc: Global, text: &mut Vec<u8>, plan: &Plan, run: Run) -> Result<(), AllocError>
     requires { IsReached run.at }
@@ -50,7 +47,6 @@ fn push_run(alloc: Global, text: &mut Vec<u8>, plan: &Plan, run: Run) -> Result<
     text.extend_from_slice(&date_text(at))
 }
 
-/// Adds `RUN and RUN`.
 #[tactic(auto, unfolding(crate::specs::ShownText::both_text))]
 fn push_both(
     alloc: Global,
@@ -68,7 +64,6 @@ fn push_both(
     push_run(alloc, text, plan, other)
 }
 
-/// Adds `RUN and RUN run together`.
 #[tactic(auto, unfolding(crate::specs::ShownText::together_text))]
 fn push_together(
     alloc: Global,
@@ -85,7 +80,6 @@ fn push_together(
     text.extend_from_slice(b" run together")
 }
 
-/// Adds `load LOAD of CAPACITY`.
 #[tactic(auto, unfolding(crate::specs::ShownText::load_text))]
 fn push_load(alloc: Global, text: &mut Vec<u8>, plan: &Plan, load: u64) -> Result<(), AllocError>
     ensures { OnOk result (text.new.items ≡ text.old.items ++ load_text plan.now load) }
@@ -96,7 +90,6 @@ fn push_load(alloc: Global, text: &mut Vec<u8>, plan: &Plan, load: u64) -> Resul
     push_number(alloc, text, u128::from(plan.capacity()))
 }
 
-/// Adds `RUN is skipped`.
 #[tactic(auto, unfolding(crate::specs::ShownText::skip_text))]
 fn push_skip(alloc: Global, text: &mut Vec<u8>, plan: &Plan, run: Run) -> Result<(), AllocError>
     requires { IsReached run.at }
@@ -106,7 +99,6 @@ fn push_skip(alloc: Global, text: &mut Vec<u8>, plan: &Plan, run: Run) -> Result
     text.extend_from_slice(b" is skipped")
 }
 
-/// Adds what is broken.
 fn push_break(
     alloc: Global,
     text: &mut Vec<u8>,
@@ -125,9 +117,8 @@ fn push_break(
 
 /// Formats what a script breaks, from [`prove_unsafe`](crate::prove_unsafe) with the same plan, in
 /// one line without a newline: `unsafe: RUN and RUN run together`, the run that started first
-/// first, `unsafe: load LOAD of CAPACITY` or `unsafe: RUN is skipped`. A run is `line N due DT` of
-/// a cron job and `job ID at DT` of an anacron job, DT being `YYYY-MM-DD HH:MM`. The only error is
-/// out of memory.
+/// first, `unsafe: load LOAD of CAPACITY` or `unsafe: RUN is skipped`. A run is `line N due DT` or
+/// `job ID at DT`, with `YYYY-MM-DD HH:MM` for DT. The only error is out of memory.
 #[tactic(auto, unfolding(crate::specs::ShownText::shown_text))]
 pub fn shown_text(alloc: Global, plan: &Plan, shown: &Shown) -> Result<Bytes, AllocError>
     requires { IsTellable (as_plan plan.now) shown.now }

@@ -36,7 +36,6 @@ impl Model for Trial {
         Watches (as_plan t.core.plan) t.deadline t.shown t.core.state.running };
 }
 
-/// The error for a refusal.
 fn fault_of(number: usize, refusal: Refusal) -> NotShown
     ensures { result ≡ fault_of number refusal }
 {
@@ -77,12 +76,12 @@ impl Trial {
 
     /// Takes an event. An event that isn't taken changes nothing.
     ///
-    /// err: with the event's `number`, counted from 1, `Illegal` if it is refused, `Late` if it is
-    /// legal and finds a run that has passed its declared time; `OutOfMemory` only if memory runs
-    /// out.
+    /// The error is, with the event's `number`, counted from 1, `Illegal` if it is refused, or
+    /// `Late` if it is legal and finds a run that has passed its declared time; or `OutOfMemory` if
+    /// memory runs out.
     ///
     /// Only what the event changes is checked: at a start the new run with those that run, and at a
-    /// minute the deadline, from which on alone the runs are checked one by one.
+    /// minute the deadline, from which on the runs are checked one by one.
     #[tactic(auto, using(crate::proofs::Breaks::shown_next, crate::proofs::Breaks::quiet_next, crate::proofs::Deadlines::deadline_next))]
     pub fn take(&mut self, event: Event, number: usize) -> Result<(), NotShown>
         ensures taken { OnOk result (IsTaken (as_plan self.old.plan) event self.old self.new) }
@@ -106,7 +105,6 @@ impl Trial {
         }
     }
 
-    /// Why an event isn't taken if it finds a run over its declared time.
     fn late_fault(&self, event: &Event, number: usize) -> NotShown
         requires { is_late (as_plan self.now.plan) self.now.state.running event.now ≡ true }
         ensures { Stops (as_plan self.now.plan) self.now.state event.now number result }
@@ -117,7 +115,6 @@ impl Trial {
         }
     }
 
-    /// What the run breaks if it starts now.
     #[tactic(auto, using(crate::proofs::Breaks::light))]
     fn break_at_start(&self, run: Option<Run>) -> Option<Shown>
         ensures { result ≡ break_at_start self.now run }
@@ -129,7 +126,6 @@ impl Trial {
         }
     }
 
-    /// Whether the event comes when a run is over its declared time.
     fn is_late(&mut self, event: &Event) -> bool
         ensures late { result ≡ is_late (as_plan self.old.plan) self.old.state.running event.now }
         ensures same { self.new ≡ self.old }
@@ -145,7 +141,6 @@ impl Trial {
         }
     }
 
-    /// Whether a run is over its declared time at this minute.
     #[tactic(auto, using(crate::proofs::Deadlines::none_over))]
     fn is_late_at(&mut self, minute: u64) -> bool
         ensures over { result ≡ any_over (as_plan self.old.plan) self.old.state.running minute }

@@ -52,7 +52,6 @@ digit_begins b digit = rw digit (any_true (nat_eq b 42))
     any_true true = refl
     any_true false = refl
 
--- a text that begins so
 abbrev Begins : List ℕ → Type 0
 Begins text = (b : ℕ) × (more : List ℕ) × (text ≡ b ∷ more) × (begins_field b ≡ true)
 

@@ -144,7 +144,6 @@ fields_fail_again (part ∷ ps) text wrong (inr (word, behind, is, solid, stop, 
     ap (λ (l : List ℕ). read_fields (part ∷ ps) l >>= ends) is
     ∙ rw (some_to (word ++ behind) (joined_some word behind solid.1), front_again is_solid word behind solid.0 stop, after_again is_solid word behind solid.0 stop, field_again part word field written, left) (fields_fail_again ps rest wrong more)
 
--- one field more
 field_read : (part : Part) (ps : List Part) (text : List ℕ) (next : Choice × List ℕ → Result (Times × List ℕ) (Wrong LineFault)) → ((x : Choice × List ℕ) → (next x >>= λ found. Ok found.1) ≡ read_fields ps x.1)
     → ((field_at part text >>= next) >>= λ found. Ok found.1) ≡ read_fields (part ∷ ps) text
 unfolding read_fields
@@ -154,7 +153,7 @@ field_read part ps text next same = by_read (field_at part text)
     by_read (Ok x) = same x
     by_read (Err e) = refl
 
--- the five fields of a schedule, and what follows them
+-- the five fields of a schedule are read as a list of fields
 schedule_fields : (text : List ℕ) → (schedule_at text >>= λ found. Ok found.1) ≡ read_fields five_parts text
 unfolding schedule_at read_fields
 schedule_fields text =

@@ -175,7 +175,6 @@ field_fits part word more (Err wrong) is fits = let p = field_part part word wro
 
 -- ---- the numbers of a field lie in its range
 
--- numbers that may be written in a field
 abbrev AreWritten : Part → List ℕ → Type 0
 AreWritten part numbers = All (λ n. (first_of part ≤ n) × (n ≤ last_of part)) numbers
 
@@ -187,7 +186,6 @@ number_low : (part : Part) (text : List ℕ) (n : ℕ) → IsNumber part text n 
 number_low part text n (inl is) = is.low
 number_low part text n (inr (place, three, found, value)) = omega (arith, value)
 
--- the names of a field stand for numbers of the field
 number_high : (part : Part) (text : List ℕ) (n : ℕ) → IsNumber part text n → n ≤ last_of part
 number_high part text n (inl is) = is.high
 number_high part text n (inr (place, three, found, value)) = omega (arith, value, names_end part text place found)

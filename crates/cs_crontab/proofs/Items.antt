@@ -193,7 +193,7 @@ item_takes part (b ∷ bs) ns e = by_test (nat_eq b 42) refl e
           | inr r ↦ inr (inr (number.0, r.0, r.1, a.0, r.2, r.3, number.1 ∙ ap (λ (l : List ℕ). number.0 ++ l) r.4, number.2, r.5, r.6, r.7, r.8))
         ]
 
--- the first byte of a number, which is a digit or a letter
+-- a number begins with a digit or a letter
 pub number_first : (part : Part) (x : List ℕ) (n : ℕ) → IsNumber part x n → (b : ℕ) × (more : List ℕ) × (x ≡ b ∷ more) × ((is_digit b ≡ true) ⊎ (is_letter b ≡ true))
 number_first part [] n (inl is) = absurd (is.digits.1 refl)
 number_first part (b ∷ bs) n (inl is) = (b, bs, refl, inl (and_left (is_digit b) (list_all is_digit bs) is.digits.0))
@@ -203,7 +203,6 @@ number_first part x n (inr (place, three, found, value)) = by_text x (long_some 
     by_text [] some letters = absurd (some refl)
     by_text (b ∷ bs) some letters = (b, bs, refl, inr (and_left (is_letter b) (list_all is_letter bs) letters))
 
--- neither is `*`
 no_star : (b : ℕ) → (is_digit b ≡ true) ⊎ (is_letter b ≡ true) → nat_eq b 42 ≡ false
 no_star b (inl digit) = let low = leb-true 48 b (and_left (nat_le 48 b) (nat_le b 57) digit) in ne_eqb b 42 (λ same. absurd (omega (arith, low, same)))
 no_star b (inr letter) = letter_other b 42 (omega arith) letter

@@ -64,7 +64,7 @@ name_length part text place found =
     let same : str_to_ascii_lowercase known ≡ str_to_ascii_lowercase text = (bytes_eq-Decides (str_to_ascii_lowercase known) (str_to_ascii_lowercase text)).0 at.1 in
     sym (length-map text to_ascii_lowercase) ∙ ap (length {A = ℕ}) (sym same) ∙ length-map known to_ascii_lowercase ∙ three
 
--- the last name of a field is for no number above its last
+-- no name of a field stands for a number above its last
 pub names_end : (part : Part) (text : List ℕ) (place : ℕ) → place_of part text ≡ Some place → first_of part + place ≤ last_of part
 unfolding place_of
 names_end part text place found =
@@ -78,7 +78,6 @@ names_end part text place found =
     below parts.Month within = omega (arith, within)
     below parts.Dow within = omega (arith, within)
 
--- the minute has no names
 pub minute_unnamed : (text : List ℕ) (place : ℕ) → place_of parts.Minute text ≡ Some place → ⊥
 unfolding place_of
 minute_unnamed text place e = absurd cc

@@ -40,14 +40,13 @@ module _ (part : Part) (text : List ℕ) where
   unfolding number_at
   number_in some low high = rw (some_digits (front is_digit text) some, le-ltb (decimal (front is_digit text)) (first_of part) low, le-ltb (last_of part) (decimal (front is_digit text)) high) refl
 
--- the greatest number of a field is far below the cut
 pub last_below : (part : Part) → last_of part < 64
 last_below part = elim part as (λ p. last_of p < 64) [ parts.Minute ↦ omega arith | parts.Hour ↦ omega arith | parts.Dom ↦ omega arith | parts.Month ↦ omega arith | parts.Dow ↦ omega arith ]
 
 pub first_below : (part : Part) → first_of part ≤ last_of part
 first_below part = elim part as (λ p. first_of p ≤ last_of p) [ parts.Minute ↦ omega arith | parts.Hour ↦ omega arith | parts.Dom ↦ omega arith | parts.Month ↦ omega arith | parts.Dow ↦ omega arith ]
 
--- A step above 1,000,000 selects what 1,000,000 does: no number but the first.
+-- a step above 1,000,000 selects what 1,000,000 does: only the first number
 cut_mod : (k s : ℕ) → k < 64 → k % min 1_000_000 s ≡ k % s
 cut_mod k s below =
     elim (cases_lt s 1_000_000) [

@@ -6,7 +6,6 @@ use Rattle.std.proofs.lemmas.Bool.{eqb-true, eqb-false, ne_eqb, cases_eq}
 use Rattle.std.proofs.lemmas.List.{append-nil}
 use Rattle.cs_crontab.specs.Command.{escaped, EndsPlain, ArePlain, input_of, AreParts, pieces_of, pieces_behind, parts_from}
 
--- bytes in front of the first piece
 abbrev pub behind : List ℕ → List (List ℕ) → List (List ℕ)
 behind front [] = front ∷ []
 behind front (piece ∷ pieces) = (front ++ piece) ∷ pieces
@@ -128,7 +127,7 @@ joined_byte b [] other = rw (ne_eqb b 37 other) refl
 joined_byte b (piece ∷ []) other = rw (ne_eqb b 37 other) refl
 joined_byte b (piece ∷ next ∷ pieces) other = rw (ne_eqb b 37 other) refl
 
--- the pieces of a text give it again, and may be parted so
+-- the pieces of a text give it again, and it may be parted into them
 Given : List ℕ → Type 0
 Given text = (text ≡ joined (pieces_of text)) × ArePlain (pieces_of text)
 

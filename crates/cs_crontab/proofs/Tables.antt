@@ -24,8 +24,6 @@ use Rattle.cs_crontab.specs.Table.{put, added}
 use Rattle.cs_crontab.proofs.Failures.{line_fails, line_fails_again, line_within}
 use Rattle.cs_crontab.proofs.Entries.{line_takes, line_again}
 
--- ---- an entry
-
 module _ (n : ℕ) (line : List ℕ) (table : Table) where
   put_takes : (entry : Entry) (more : Table) → put n line table entry ≡ Ok more → HasRoom table entry × (more ≡ with_entry n entry table)
   put_takes Nothing more e = (tt, sym (ok_is table more e))
@@ -50,8 +48,6 @@ module _ (n : ℕ) (line : List ℕ) (table : Table) where
       by_room : (t : Bool) → nat_lt (length table.lines) MAX_COMMANDS ≡ t → cond t (Ok (with_entry n (Command when command) table)) (Err (whole faults.TooManyJobs (after is_blank line))) ≡ Err wrong → Fails table line wrong
       by_room true is e = absurd cc
       by_room false is e = inr (ltb-false (length table.lines) MAX_COMMANDS is, (when, command, says), whole_takes faults.TooManyJobs line wrong (sym (err_is {A = Table} (whole faults.TooManyJobs (after is_blank line)) wrong e)))
-
--- ---- a line
 
 takes : (n : ℕ) (table more : Table) (line : List ℕ) → added n table line ≡ Ok more → Adds n table line more
 takes n table more line e = by_read (line_of line) refl e
@@ -85,13 +81,9 @@ within n table line wrong e = by_reason (fails n table line wrong e)
 pub agrees : Agrees crontab added
 agrees = record { takes = takes; again = again; fails = fails; fails_again = fails_again; within = within }
 
--- ---- what a call answered of a line
-
 pub line_answers : (line : List ℕ) (r : Result Held (Wrong LineFault)) → Gives entry_seen r (line_of line) → IfOk r (λ entry. Says line (entry_seen entry)) × IfErr r (LineFails line) × IfErr r (IsWithin line)
 line_answers line (Ok entry) is = (line_takes line (entry_seen entry) is, tt, tt)
 line_answers line (Err wrong) is = let fails = line_fails line wrong is in (tt, fails, line_within line wrong fails)
-
--- ---- the order of the lines
 
 record Holds (n : ℕ) (table : Table) : Type 0 where
   few : length table.lines ≤ MAX_COMMANDS

@@ -46,8 +46,6 @@ step_again part text rest field (word, gap, is, solid, blank, stop, written) =
     ap (field_at part) is
     ∙ rw (some_to (word ++ (gap ++ rest)) (joined_some word (gap ++ rest) solid.1), front_again is_solid word (gap ++ rest) solid.0 (gap_stops gap rest blank), after_again is_solid word (gap ++ rest) solid.0 (gap_stops gap rest blank), after_again is_blank gap rest blank.0 stop, field_again part word field written) refl
 
--- ---- five fields
-
 pub schedule_takes : (text : List ℕ) (x : Times × List ℕ) → StopsAt is_blank text → schedule_at text ≡ Ok x → x.1 ≢ [] → AreFields (fields_of x.0) text x.1
 unfolding schedule_at
 schedule_takes text x stop e some =

@@ -9,7 +9,7 @@ escaped text = flat_map (λ b. if b == 37 then 92 ∷ 37 ∷ [] else b ∷ []) t
 abbrev pub EndsPlain : List ℕ → Type 0
 EndsPlain text = (front : List ℕ) → text ≢ front ++ (92 ∷ [])
 
--- No text but the last ends with a backslash.
+-- only the last text may end with a backslash
 abbrev pub ArePlain : List (List ℕ) → Type 0
 ArePlain [] = Unit {0}
 ArePlain (text ∷ []) = Unit {0}
@@ -20,13 +20,14 @@ abbrev pub input_of : List (List ℕ) → Option (List ℕ)
 input_of [] = None
 input_of (line ∷ lines) = Some (join_with_byte 10 (line ∷ lines))
 
--- The text is the command and the input's lines, `%` between them and each `%` in them escaped.
+-- the text is the command and the lines of the input, with `%` between them; a `%` in them is
+-- escaped
 abbrev pub AreParts : List ℕ → List ℕ × Option (List ℕ) → Type 0
 AreParts text parts = (lines : List (List ℕ))
     × (text ≡ join_with_byte 37 (map escaped (parts.0 ∷ lines))) × ArePlain (parts.0 ∷ lines)
     × (parts.1 ≡ input_of lines)
 
--- the texts between the `%` that no backslash escapes, in which `\%` is `%`
+-- the texts between the `%` that no backslash escapes; `\%` in them is `%`
 unfoldable pub pieces_of : List ℕ → List (List ℕ)
 pieces_of [] = [] ∷ []
 pieces_of (b ∷ []) = if b == 37 then [] ∷ [] ∷ [] else (b ∷ []) ∷ []

@@ -1,17 +1,17 @@
--- The content of a crontab.
+-- What a crontab says.
 use Rattle.std.specs.Prelude.{ℕ, List, [], ◌∷◌, ◌++◌, length, AllPairs, ◌<◌, ◌≤◌, ◌==◌, not}
 use Rattle.std.specs.List.{filter, list_any}
 use Rattle.cs_table.specs.Setting.{SettingLine}
 use Rattle.cs_crontab.specs.declared.table.When.{When}
 use Rattle.cs_crontab.specs.declared.limits.TheConstants.{MAX_COMMANDS}
 
--- the content of one line
+-- what one line says
 pub data Entry : Type 0 where
   Nothing : Entry
   Setting : (name value : List ℕ) → Entry
   Command : When → (command : List ℕ) → Entry
 
--- a command, when it is started, and the number of its line, counted from 1
+-- lines are counted from 1
 pub record CommandLine : Type 0 where
   pub number : ℕ
   pub when : When
@@ -24,7 +24,7 @@ pub record Table : Type 0 where
 abbrev pub no_lines : Table
 no_lines = record { settings = []; lines = [] }
 
--- a table with the content of a line at its end
+-- what a line says comes to the end of the table
 abbrev pub with_entry : ℕ → Entry → Table → Table
 with_entry number Nothing table = table
 with_entry number (Setting name value) table = record {
@@ -36,13 +36,12 @@ with_entry number (Command when command) table = record {
   lines = table.lines ++ (record { number = number; when = when; command = command } ∷ []);
 }
 
--- There are not too many commands; settings and commands are in order of line, each on its own.
+-- not too many commands; settings and commands in order of line, each on a line of its own
 pub record IsOrdered (table : Table) : Type 0 where
   pub few : length table.lines ≤ MAX_COMMANDS
   pub rising : AllPairs (λ x y. x.number < y.number) table.lines
   pub settings_rising : AllPairs (λ x y. x.number < y.number) table.settings
 
--- the table without the commands on the lines of these numbers
 abbrev pub without : List ℕ → Table → Table
 without numbers table = record {
   settings = table.settings;

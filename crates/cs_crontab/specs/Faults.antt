@@ -21,7 +21,7 @@ use Rattle.cs_table.specs.Text.{lines_of, is_blank, is_solid, Are, StopsAt}
 use Rattle.cs_crontab.specs.Grammar.{AreItems, IsField, IsWordFor, Says, Adds}
 use Rattle.cs_crontab.specs.Reading.{item_of}
 
--- Of the items between the commas those before one are fine, and that one has the fault.
+-- one item between the commas has the fault, and those before it have none
 abbrev pub IsFieldFault : Part → List ℕ → Wrong LineFault → Type 0
 IsFieldFault part word wrong =
     (before : List (List ℕ)) × (text : List ℕ) × (behind items : List (List ℕ))
@@ -29,8 +29,8 @@ IsFieldFault part word wrong =
     × (item_of part text ≡ Err wrong.fault) × (wrong.length ≡ length text)
     × (wrong.left ≡ length (join_with_byte 44 (text ∷ behind)))
 
--- The fields before one are fine; there the text ends, or the next word has the fault. After the
--- last field the text ends.
+-- one field has the fault, or the text ends where it should begin; the fields before it have none;
+-- or the text ends after the last field
 abbrev pub FieldsFail : List Part → List ℕ → Wrong LineFault → Type 0
 FieldsFail [] text wrong = (text ≡ []) × (wrong ≡ at_end faults.NoCommand)
 FieldsFail (part ∷ parts) text wrong =
@@ -46,7 +46,7 @@ FieldsFail (part ∷ parts) text wrong =
 abbrev pub five_parts : List Part
 five_parts = Minute ∷ Hour ∷ Dom ∷ Month ∷ Dow ∷ []
 
--- After `@`, the word stands for nothing, or only blanks follow it.
+-- after `@`, the word stands for nothing, or only blanks follow it
 abbrev pub WordFails : List ℕ → Wrong LineFault → Type 0
 WordFails text wrong =
     (word behind : List ℕ) × (text ≡ word ++ behind) × (list_all is_solid word ≡ true)
@@ -60,7 +60,7 @@ abbrev pub SettingFails : List ℕ → Wrong LineFault → Type 0
 SettingFails text wrong =
     (wrong ≡ whole faults.BadSetting text) × ((name value : List ℕ) → IsSetting text name value → ⊥)
 
--- By its first byte a text without leading blanks is a good comment, a word, a setting or fields.
+-- the first byte decides: `@` begins a word, others a setting or fields; a comment has no fault
 abbrev pub TextFails : List ℕ → Wrong LineFault → Type 0
 TextFails [] wrong = ⊥
 TextFails (b ∷ bs) wrong =
@@ -68,7 +68,7 @@ TextFails (b ∷ bs) wrong =
     ⊎ (((begins_setting b ≡ true) × SettingFails (b ∷ bs) wrong)
     ⊎ ((b ≢ 35) × (b ≢ 64) × (begins_setting b ≡ false) × FieldsFail five_parts (b ∷ bs) wrong))
 
--- The line is too long, or holds a zero byte, or its text after leading blanks has the fault.
+-- the line is too long, or holds a zero byte, or its text after leading blanks has the fault
 abbrev pub LineFails : List ℕ → Wrong LineFault → Type 0
 LineFails line wrong =
     ((MAX_LINE < length line) × (wrong ≡ whole faults.TooLong (drop MAX_LINE line)))
@@ -77,7 +77,7 @@ LineFails line wrong =
     × ((indent text : List ℕ) × (line ≡ indent ++ text) × (list_all is_blank indent ≡ true)
     × StopsAt is_blank text × TextFails text wrong)))
 
--- A line has a fault, or, after all its own faults, its command is one too many for the table.
+-- the line has a fault; or, after all its own faults, its command is one too many for the table
 abbrev pub Fails : Table → List ℕ → Wrong LineFault → Type 0
 Fails table line wrong =
     LineFails line wrong
@@ -85,21 +85,20 @@ Fails table line wrong =
     × ((when : When) × (command : List ℕ) × Says line (Command when command))
     × IsWhole faults.TooManyJobs line wrong)
 
--- A crontab is read line by line.
 abbrev pub crontab : Kind Table LineFault
 crontab = record { empty = no_lines; too_long = faults.TooLong; Adds = Adds; Fails = Fails }
 
--- The text is written as this table.
+-- the text is written as this table
 abbrev pub IsCrontab : List ℕ → Table → Type 0
 IsCrontab text table = IsTable crontab text table
 
--- A text is written as a table, or it has a fault.
+-- a text is written as a table, or it has a fault
 abbrev pub Meaning : Type 0
 Meaning = tables.Meaning Table LineFault
 
 abbrev pub Means : List ℕ → Meaning → Type 0
 Means text meaning = tables.Means crontab text meaning
 
--- The fault that a call answered is the text's, unless memory ran out.
+-- the fault that a call answered is the text's, unless memory ran out
 abbrev pub IsFaultOf : List ℕ → TableFault LineFault → Type 0
 IsFaultOf text fault = tables.IsFaultOf crontab text fault

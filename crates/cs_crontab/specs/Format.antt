@@ -19,11 +19,11 @@ names_of Month =
 names_of Dow = codes "sun" ∷ codes "mon" ∷ codes "tue" ∷ codes "wed" ∷ codes "thu" ∷ codes "fri"
     ∷ codes "sat" ∷ []
 
--- the place of a name among those of a field, in upper or lower case
+-- in upper or lower case
 unfoldable pub place_of : Part → List ℕ → Option ℕ
 place_of part name = position (λ known. str_eq_ignore_ascii_case known name) (names_of part)
 
--- In the weekday field 7 counts as 0.
+-- in the weekday field 7 counts as 0
 abbrev pub counted : Part → List ℕ → List ℕ
 counted Minute numbers = numbers
 counted Hour numbers = numbers
@@ -31,7 +31,6 @@ counted Dom numbers = numbers
 counted Month numbers = numbers
 counted Dow numbers = in_week numbers
 
--- the numbers of some item of a list
 abbrev pub all_of : List (List ℕ) → List ℕ
 all_of items = numbers_where (λ n. list_any (λ item. has item n) items)
 
@@ -65,7 +64,7 @@ abbrev pub hourly : Times
 hourly =
     record { minute = only 0; hour = all Hour; dom = all Dom; month = all Month; dow = all Dow }
 
--- what the word after `@` stands for, `@reboot` aside
+-- what the word after `@` stands for, except `@reboot`
 abbrev pub times_of_word : List ℕ → Option Times
 times_of_word word =
     if bytes_eq word (codes "yearly") || bytes_eq word (codes "annually") then Some yearly

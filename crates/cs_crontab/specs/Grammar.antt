@@ -22,7 +22,7 @@ pub record IsDigits (part : Part) (text : List ℕ) (n : ℕ) : Type 0 where
   pub low : first_of part ≤ n
   pub high : n ≤ last_of part
 
--- three letters that name a number of the field: the first name is that of its first number
+-- three letters that name a number of the field; the first name is that of its first number
 abbrev pub IsName : Part → List ℕ → ℕ → Type 0
 IsName part text n = (place : ℕ) × (length text ≡ 3) × (place_of part text ≡ Some place)
     × (n ≡ first_of part + place)
@@ -62,14 +62,14 @@ AreItems part [] items = items ≡ []
 AreItems part (text ∷ texts) items = (numbers : List ℕ) × (others : List (List ℕ))
     × IsItem part text numbers × AreItems part texts others × (items ≡ numbers ∷ others)
 
--- one item or more, parted by commas
+-- one or more items, with commas between them
 abbrev pub IsField : Part → List ℕ → Choice → Type 0
 IsField part text field =
     (texts items : List (List ℕ)) × (texts ≢ []) × (text ≡ join_with_byte 44 texts)
     × AreItems part texts items
     × (field ≡ record { star = begins_with 42 text; numbers = counted part (all_of items) })
 
--- The fields are written in text, each with blanks after it, and then the command.
+-- the fields are written in the text, each with blanks after it, and then the command
 abbrev pub AreFields : List (Part × Choice) → List ℕ → List ℕ → Type 0
 AreFields [] text command = text ≡ command
 AreFields (f ∷ fs) text command =
@@ -85,7 +85,7 @@ abbrev pub AreTimes : List ℕ → When → List ℕ → Type 0
 AreTimes text (At schedule) command = AreFields (fields_of schedule) text command
 AreTimes text Reboot command = ⊥
 
--- what a word stands for
+-- what a word after `@` stands for
 abbrev pub IsWordFor : List ℕ → When → Type 0
 IsWordFor word (At schedule) = times_of_word word ≡ Some schedule
 IsWordFor word Reboot = word ≡ codes "reboot"
@@ -96,15 +96,15 @@ IsWordLine text when command =
     (word gap : List ℕ) × (text ≡ 64 ∷ (word ++ (gap ++ command))) × Are is_solid word
     × Are is_blank gap × StopsAt is_blank command × IsWordFor word when
 
--- A text without leading blanks: nothing if it is empty or a comment. A setting begins with a
--- letter, `_` or a quote (this profile).
+-- a text without leading blanks says nothing if it is empty or a comment; a setting begins with a
+-- letter, `_` or a quote (this profile)
 abbrev pub TextSays : List ℕ → Entry → Type 0
 TextSays text Nothing = (text ≡ []) ⊎ ((comment : List ℕ) × (text ≡ 35 ∷ comment))
 TextSays text (Setting name value) = (begins_as_setting text ≡ true) × IsSetting text name value
 TextSays text (Command when command) =
     (AreTimes text when command ⊎ IsWordLine text when command) × (command ≢ [])
 
--- the content of a line, whose leading blanks are ignored
+-- what a line says; leading blanks don't count
 pub record Says (line : List ℕ) (entry : Entry) : Type 0 where
   pub short : length line ≤ MAX_LINE
   pub clean : list_any (λ b. nat_eq b 0) line ≡ false
@@ -114,13 +114,13 @@ pub record Says (line : List ℕ) (entry : Entry) : Type 0 where
   pub blank : list_all is_blank indent ≡ true
   pub says : TextSays text entry
 
--- There is room for a command in the table.
+-- there is room for a command in the table
 abbrev pub HasRoom : Table → Entry → Type 0
 HasRoom table Nothing = Unit {0}
 HasRoom table (Setting name value) = Unit {0}
 HasRoom table (Command when command) = length table.lines < MAX_COMMANDS
 
--- The line with this number makes one table into the other.
+-- the line with this number makes one table into the other
 abbrev pub Adds : ℕ → Table → List ℕ → Table → Type 0
 Adds number table line more = (entry : Entry) × Says line entry × HasRoom table entry
     × (more ≡ with_entry number entry table)

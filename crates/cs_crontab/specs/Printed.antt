@@ -1,9 +1,8 @@
--- The faults of a crontab as printed.
+-- The faults of a crontab as printed: number and name.
 use Rattle.std.specs.Prelude.{ℕ, List, codes}
 use Rattle.cs_crontab.specs.declared.fault.LineFault.{LineFault}
 use Rattle.cs_crontab.specs.declared.fault.LineFault.TheVariants as faults
 
--- number and name
 abbrev pub fault_text : LineFault → List ℕ
 fault_text faults.TooLong = codes "1 TooLong"
 fault_text faults.NulByte = codes "2 NulByte"

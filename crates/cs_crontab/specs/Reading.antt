@@ -22,7 +22,6 @@ use Rattle.cs_table.specs.Setting.{begins_setting}
 
 -- A part of an item is its value and what follows it.
 
--- the number that a name at some place stands for
 abbrev pub named : Part → Option ℕ → List ℕ → Result (ℕ × List ℕ) LineFault
 named part None rest = Err faults.BadNumber
 named part (Some place) rest = Ok (first_of part + place, rest)
@@ -44,7 +43,7 @@ step_at (b ∷ bs) =
     else Ok (decimal (front is_digit bs), after is_digit bs)
     else Ok (1, b ∷ bs)
 
--- a step as the code keeps it: one above 1,000,000 selects no other numbers than 1,000,000 does
+-- a step as the code keeps it: one above 1,000,000 selects the same numbers as 1,000,000
 abbrev pub cut_step : Result (ℕ × List ℕ) LineFault → Result (ℕ × List ℕ) LineFault
 cut_step step = do
   n ← step
@@ -88,7 +87,7 @@ item_of part text = do
   item ← item_at part text
   if is_nothing item.1 then Ok item.0 else Err faults.BadNumber
 
--- items that commas part; the wrong one has the texts behind it to its right
+-- items between commas; a wrong one is marked with how many bytes are left from it on
 unfoldable pub items_of : Part → List (List ℕ) → Result (List (List ℕ)) (Wrong LineFault)
 items_of part [] = Ok []
 items_of part (text ∷ texts) = do
@@ -96,24 +95,22 @@ items_of part (text ∷ texts) = do
   items ← items_of part texts
   Ok (item ∷ items)
 
--- the numbers of the items that commas part
 unfoldable pub list_of : Part → List ℕ → Result (List ℕ) (Wrong LineFault)
 list_of part word = do
   items ← items_of part (slice_split is_comma word)
   Ok (all_of items)
 
--- the items after a comma, or after no comma
+-- the items after a comma; none if there is no comma
 abbrev pub items_behind : Option (List ℕ) → List (List ℕ)
 items_behind None = []
 items_behind (Some text) = slice_split is_comma text
 
--- a field, which is all of its word
 unfoldable pub field_of : Part → List ℕ → Result Choice (Wrong LineFault)
 field_of part word = do
   numbers ← list_of part word
   Ok (record { star = begins_with 42 word; numbers = counted part numbers })
 
--- the field that the next word is, and the text from the word after it on
+-- the field in the next word, and the text from the word after it on
 unfoldable pub field_at : Part → List ℕ → Result (Choice × List ℕ) (Wrong LineFault)
 field_at part text =
     if is_nothing text then Err (at_end faults.MissingField) else do
@@ -134,18 +131,17 @@ abbrev pub timed : Option Times → Result When LineFault
 timed None = Err faults.UnknownWord
 timed (Some schedule) = Ok (At schedule)
 
--- what the word after `@` stands for
 unfoldable pub when_of : List ℕ → Result When LineFault
 when_of word =
     if bytes_eq word (codes "reboot") then Ok Reboot
     else timed (times_of_word word)
 
--- a command, which is not empty
+-- a command, which isn't empty
 abbrev pub commanded : When → List ℕ → Result Entry (Wrong LineFault)
 commanded when command =
     if is_nothing command then Err (at_end faults.NoCommand) else Ok (Command when command)
 
--- the content of a line after its `@`
+-- what a line says after its `@`
 unfoldable pub word_line : List ℕ → Result Entry (Wrong LineFault)
 word_line text = do
   when ← marked (length text + 1) (length (front is_solid text) + 1) (when_of (front is_solid text))
@@ -155,7 +151,7 @@ abbrev pub set : List ℕ → Option (List ℕ × List ℕ) → Result Entry (Wr
 set text None = Err (whole faults.BadSetting text)
 set text (Some found) = Ok (Setting found.0 found.1)
 
--- the content of a line without its leading blanks
+-- what a line says after its leading blanks
 unfoldable pub entry_of : List ℕ → Result Entry (Wrong LineFault)
 entry_of [] = Ok Nothing
 entry_of (b ∷ bs) =

@@ -9,7 +9,7 @@ use Rattle.cs_table.specs.declared.fault.Wrong.{Wrong}
 use Rattle.cs_table.specs.Text.{after, is_blank}
 use Rattle.cs_table.specs.Wrong.{◌>>=◌, whole}
 
--- the table with the entry of a line at its end, or the fault of a command above the limit
+-- a line comes to the end of the table, unless its command is above the limit
 abbrev pub put : ℕ → List ℕ → Table → Entry → Result Table (Wrong LineFault)
 put number line table Nothing = Ok table
 put number line table (Setting name value) = Ok (with_entry number (Setting name value) table)

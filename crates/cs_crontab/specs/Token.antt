@@ -5,7 +5,7 @@ use Rattle.cs_crontab.specs.declared.command.Token.{Token}
 use Rattle.cs_crontab.specs.declared.command.Token.TheVariants.{End, Mark, Byte}
 use Rattle.cs_crontab.specs.Command.{pieces_of}
 
--- the pieces of a text that begins so
+-- the pieces of a text that begins like this
 abbrev pub pieces_seen : Token → List (List ℕ)
 pieces_seen End = [] ∷ []
 pieces_seen (Mark rest) = [] ∷ pieces_of rest.now

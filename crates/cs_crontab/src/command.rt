@@ -9,7 +9,6 @@ use std::alloc::{AllocError, Global};
 
 /// What a text begins with.
 enum Token<'a> {
-    /// Nothing: it is empty.
     End,
     /// A `%` without a backslash, and the rest.
     Mark(&'a [u8]),
@@ -50,7 +49,6 @@ fn piece(alloc: Global, text: &[u8]) -> Result<(Vec<u8>, Option<&[u8]>), AllocEr
     }
 }
 
-/// The pieces with newlines between them.
 fn lines(alloc: Global, text: &[u8]) -> Result<Vec<u8>, AllocError>
     ensures { IfOk result (λ v. v.items ≡ join_with_byte 10 (pieces_of text.now)) }
 {
@@ -77,9 +75,9 @@ fn read_parts(alloc: Global, command: &[u8]) -> Result<(Bytes, Option<Bytes>), A
 
 /// Returns the command to run and its standard input, if it has one (crontab(5)).
 ///
-/// The first `%` without a backslash ends the command; the input follows, in which each further one
-/// is a newline. `\%` is `%`, any other backslash is kept, and no newline is added to the input
-/// (this profile). The only error is out of memory.
+/// The first `%` without a backslash ends the command. What follows is the input, in which each
+/// further one is a newline. `\%` is `%`, any other backslash stays, and no newline is added to the
+/// input (this profile).
 pub fn command_parts(alloc: Global, command: &[u8]) -> Result<(Bytes, Option<Bytes>), AllocError>
     // The parts give the command again.
     ensures parts { IfOk result (AreParts command.now) }

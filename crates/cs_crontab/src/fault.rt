@@ -7,7 +7,7 @@ use thiserror::Error;
 #[derive(Clone, Copy, Debug, PartialEq, Eq, Error)]
 #[error("{}", self.text())]
 pub enum LineFault {
-    /// The table or the line exceeds [`MAX_TABLE`](cs_table::MAX_TABLE) or
+    /// The table is longer than [`MAX_TABLE`](cs_table::MAX_TABLE), or the line longer than
     /// [`MAX_LINE`](cs_table::MAX_LINE).
     TooLong,
     /// The line holds a zero byte.

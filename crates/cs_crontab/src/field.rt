@@ -14,7 +14,6 @@ use cs_table::text::{digits, skip_blanks, word};
 use cs_table::{Wrong, marked, moved};
 use memchr::memchr;
 
-/// The number that the name at the front stands for, and what follows it.
 fn named(part: Part, text: &[u8]) -> Result<(u8, &[u8]), LineFault>
     ensures { Gives (λ x. (x.0, x.1.now)) result
         (named part (place_of part (take 3 text.now)) (drop 3 text.now)) }
@@ -26,7 +25,6 @@ fn named(part: Part, text: &[u8]) -> Result<(u8, &[u8]), LineFault>
     }
 }
 
-/// The number at the front, in digits or by its name, and what follows it.
 #[tactic(auto, unfolding(crate::specs::Reading::number_at))]
 fn number(part: Part, text: &[u8]) -> Result<(u8, &[u8]), LineFault>
     ensures { Gives (λ x. (x.0, x.1.now)) result (number_at part text.now) }
@@ -64,7 +62,6 @@ fn step(text: &[u8]) -> Result<(u32, &[u8]), LineFault>
     }
 }
 
-/// Every n-th number from the first to the last, by the step at the front of the text.
 fn every(first: u8, last: u8, text: &[u8]) -> Result<(Numbers, &[u8]), LineFault>
     ensures { Gives (λ x. (x.0, x.1.now)) result (every first last (step_at text.now)) }
 {
@@ -108,7 +105,6 @@ fn item(part: Part, text: &[u8]) -> Result<(Numbers, &[u8]), LineFault>
     }
 }
 
-/// The text before the first comma, and what follows the comma.
 fn first_item(text: &[u8]) -> (&[u8], Option<&[u8]>)
     ensures items { slice_split is_comma text.now
         ≡ result.0.now ∷ items_behind (option_map (λ x. x.now) result.1) }
@@ -131,8 +127,8 @@ fn whole_item(part: Part, text: &[u8]) -> Result<Numbers, LineFault>
     Ok(numbers)
 }
 
-/// Reads an item of a field, which is all of its text, or returns its first fault from left to
-/// right: `*`, `a` or `a-z`, each with a step or without one.
+/// Reads all of a text as an item of a field: `*`, `a` or `a-z`, with or without a step; or returns
+/// its first fault from left to right.
 pub fn read_item(part: Part, text: &[u8]) -> Result<Numbers, LineFault>
     ensures written { IfOk result (IsItem part text.now) }
     ensures none { IsErr result → (numbers : List ℕ) → IsItem part text.now numbers → ⊥ }
@@ -143,14 +139,13 @@ pub fn read_item(part: Part, text: &[u8]) -> Result<Numbers, LineFault>
     whole_item(part, text)
 }
 
-/// An item, where so many bytes are left of its word.
+/// An item, where so many bytes of its word are left.
 fn placed_item(part: Part, left: usize, text: &[u8]) -> Result<Numbers, Wrong<LineFault>>
     ensures { result ≡ marked left (length text.now) (item_of part text.now) }
 {
     marked(left, text.len(), whole_item(part, text))
 }
 
-/// The numbers of items separated by commas.
 fn list(part: Part, word: &[u8]) -> Result<Numbers, Wrong<LineFault>>
     ensures { result ≡ list_of part word.now }
 {
@@ -167,7 +162,6 @@ fn list(part: Part, word: &[u8]) -> Result<Numbers, Wrong<LineFault>>
     }
 }
 
-/// A field, which is all of its word.
 #[tactic(auto, unfolding(crate::specs::Reading::field_of))]
 fn field(part: Part, word: &[u8]) -> Result<Field, Wrong<LineFault>>
     ensures { result ≡ field_of part word.now }

@@ -1,4 +1,4 @@
-//! Reading a crontab (crontab(5)).
+//! Reads crontab(5) tables, and reports the first fault with its place.
 #![tactic(auto)]
 
 mod command;

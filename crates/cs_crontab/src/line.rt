@@ -15,10 +15,10 @@ use cs_table::setting::{begins_setting, read_setting};
 use cs_table::text::{has_nul, skip_blanks, word};
 use cs_table::{MAX_LINE, Wrong, marked};
 
-/// The content of a line.
+/// What a line says.
 #[derive(Drop)]
 pub enum Entry<'a> {
-    /// Nothing: it is empty, blank or a comment.
+    /// It is empty, blank or a comment.
     Nothing,
     /// A name and its value.
     Setting(&'a [u8], &'a [u8]),
@@ -26,7 +26,6 @@ pub enum Entry<'a> {
     Command(When, &'a [u8]),
 }
 
-/// The five fields, and the text after them.
 #[tactic(auto, unfolding(crate::specs::Reading::schedule_at))]
 fn schedule(text: &[u8]) -> Result<(Schedule, &[u8]), Wrong<LineFault>>
     ensures { Gives (λ x. (x.0, x.1.now)) result (schedule_at text.now) }
@@ -39,7 +38,6 @@ fn schedule(text: &[u8]) -> Result<(Schedule, &[u8]), Wrong<LineFault>>
     Ok((Schedule::new(minute, hour, dom, month, dow), text))
 }
 
-/// What the word after `@` stands for.
 #[tactic(auto, unfolding(crate::specs::Reading::when_of))]
 fn word_time(word: &[u8]) -> Result<When, LineFault>
     ensures { result ≡ when_of word.now }
@@ -62,14 +60,13 @@ fn commanded(when: When, command: &[u8]) -> Result<Entry<'_>, Wrong<LineFault>>
     Ok(Entry::Command(when, command))
 }
 
-/// The same of the word at the front of a text behind `@`.
+/// The same for the word at the front of a text after `@`.
 fn placed_time(word: &[u8], text: &[u8]) -> Result<When, Wrong<LineFault>>
     ensures { result ≡ marked (length text.now + 1) (length word.now + 1) (when_of word.now) }
 {
     marked(text.len() + 1, word.len() + 1, word_time(word))
 }
 
-/// The content of a line after its `@`.
 #[tactic(auto, unfolding(crate::specs::Reading::word_line))]
 fn word_line(text: &[u8]) -> Result<Entry<'_>, Wrong<LineFault>>
     ensures { Gives entry_seen result (word_line text.now) }
@@ -79,7 +76,6 @@ fn word_line(text: &[u8]) -> Result<Entry<'_>, Wrong<LineFault>>
     commanded(when, skip_blanks(rest))
 }
 
-/// The content of a line without its leading blanks.
 #[tactic(auto, unfolding(crate::specs::Reading::entry_of))]
 fn read_entry(text: &[u8]) -> Result<Entry<'_>, Wrong<LineFault>>
     ensures { Gives entry_seen result (entry_of text.now) }
@@ -111,7 +107,7 @@ fn content(line: &[u8]) -> Result<Entry<'_>, Wrong<LineFault>>
     read_entry(skip_blanks(line))
 }
 
-/// Reads the content of a line, or returns its first fault from left to right.
+/// Reads what a line says, or returns its first fault from left to right.
 pub fn read_line(line: &[u8]) -> Result<Entry<'_>, Wrong<LineFault>>
     ensures says { IfOk result (λ entry. Says line.now (entry_seen entry)) }
     ensures fails { IfErr result (LineFails line.now) }

@@ -23,7 +23,7 @@ fn names(part: Part) -> &'static [[u8; 3]]
     }
 }
 
-/// The index of a name among those of a field, in upper or lower case (crontab(5)).
+/// A field's name may be in upper or lower case (crontab(5)).
 #[tactic(auto, unfolding(crate::specs::Format::place_of))]
 pub(crate) fn name_place(part: Part, name: &[u8]) -> Option<usize>
     ensures value { result ≡ place_of part name.now }

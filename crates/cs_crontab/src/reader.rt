@@ -15,7 +15,6 @@ use cs_table::{Draft, Setting, Wrong, read_table};
 use std::alloc::{AllocError, Global};
 use std::marker::Model;
 
-/// The lines read so far.
 #[derive(Drop)]
 struct CrontabDraft {
     variables: Sequence<Setting>,
@@ -82,10 +81,10 @@ fn read_bytes(alloc: Global, bytes: &[u8]) -> Result<Crontab, TableFault>
 
 /// Reads a crontab (crontab(5)), or returns its first fault. Memory may run out.
 ///
-/// The table's length comes first; in a line its length, a zero byte, then faults from left to
+/// The table's length comes first; in a line its length, then a zero byte, then faults from left to
 /// right, then too many commands.
 pub fn read_crontab(alloc: Global, bytes: &[u8]) -> Result<Crontab, TableFault>
-    // The table that is read is written in the bytes.
+    // The table is written in the bytes.
     ensures table { IfOk result (IsCrontab bytes.now) }
     // err: the first fault; `OutOfMemory` only if memory runs out
     ensures fault { IfErr result (IsFaultOf bytes.now) }

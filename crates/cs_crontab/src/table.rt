@@ -147,7 +147,7 @@ impl Crontab {
         }
     }
 
-    /// Copies the crontab. The only error is out of memory.
+    /// Copies the crontab.
     pub fn copy(&self, alloc: Global) -> Result<Crontab, AllocError>
         ensures { IfOk result (λ table. table ≡ self.now) }
     {
@@ -188,8 +188,7 @@ impl Crontab {
         self.commands.as_slice()
     }
 
-    /// Returns the environment of the command on that line, like [`env_of`]. The only error is out
-    /// of memory.
+    /// Returns the environment of the command on that line, like [`env_of`].
     pub fn env_of(&self, alloc: Global, line: u32) -> Result<Sequence<(Bytes, Bytes)>, AllocError>
         ensures names { IfOk result
             (λ env. map (λ v. v.0) env ≡ first_places (names_of (above line self.now.settings))) }

@@ -15,7 +15,6 @@ fn only(part: Part, number: u8) -> Field
     Field::new(false, Numbers::every(number, number, 1))
 }
 
-/// The field `*`.
 fn all(part: Part) -> Field
     ensures value { result ≡ all part }
     ensures within { IsWithin part result.numbers }
@@ -28,7 +27,6 @@ fn all(part: Part) -> Field
     Field::new(true, numbers)
 }
 
-/// The schedule `0 0` with these three fields.
 fn at_midnight(dom: Field, month: Field, dow: Field) -> Schedule
     requires dom { IsWithin part.Dom dom.numbers }
     requires month { IsWithin part.Month month.numbers }
@@ -51,7 +49,7 @@ fn hourly() -> Schedule
     )
 }
 
-/// The schedule of the word after `@`, except `@reboot` (crontab(5)).
+/// `None` for `@reboot`, which has no schedule (crontab(5)).
 pub(crate) fn word_schedule(word: &[u8]) -> Option<Schedule>
     ensures { result ≡ times_of_word word.now }
 {

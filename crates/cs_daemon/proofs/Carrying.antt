@@ -8,7 +8,7 @@ use Rattle.cs_daemon.proofs.Turning.{one_more}
 use Rattle.cs_daemon.specs.Carried.{CarriesOut, CarriesOutAll}
 
 module _ {W : Type 0} (runs : W → Asked → Outcome → W → Type 0) (d : Declared) where
-  -- runs that are carried out, at least as many as steps are made, and then one more of both
+  -- at least as many runs are carried out as steps are made, and then one more of both
   pub carried_on : (share mid_share new_share : ℕ) (run : Run) (outcome : Outcome) (old mid new : W) → ((es : List (Run × Outcome)) × CarriesOutAll runs d es old mid × (mid_share ≤ share + length es))
       → CarriesOut runs d run mid outcome new → new_share ≤ mid_share + 1
       → (es : List (Run × Outcome)) × CarriesOutAll runs d es old new × (new_share ≤ share + length es)

@@ -16,7 +16,6 @@ abbrev is_some : {A : Type 0} → Option A → Bool
 is_some None = false
 is_some (Some x) = true
 
--- an end that is taken is that of a run that goes on
 taken : (k new : Keeping) (run : Run) → refusal_in k (End run) ≡ None → new ≡ with_event k (End run) → new ≡ with_end k run
 taken k new run legal made = go (list_any (λ x. same_run run x.run) k.core.state.running) (is_full k (End run)) legal
   where
@@ -24,7 +23,6 @@ taken k new run legal made = go (list_any (λ x. same_run run x.run) k.core.stat
     go true full h = made
     go false full h = absurd (true≢false (ap is_some h))
 
--- and one that is refused that of another
 refused : (k new : Keeping) (run : Run) (f : Refusal) → IsRefused k (End run) f → new ≡ k → new ≡ with_end k run
 refused k new run f why same = go (list_any (λ x. same_run run x.run) k.core.state.running) (why.end refl)
   where
@@ -36,7 +34,7 @@ pub ends : (A : Type 0) (k new : Keeping) (run : Run) (r : Result Reply Refusal)
 ends A k new run (Ok reply) legal made why same = taken k new run legal made
 ends A k new run (Err f) legal made why same = refused k new run f why same.0
 
--- of the keep it changes neither the plan nor the minute, and takes nothing from the journal
+-- an end leaves the keep's plan and minute, and takes nothing from its journal
 pub record IsEnded (k new : Keeping) : Type 0 where
   pub plan : new.core.plan ≡ k.core.plan
   pub now : new.core.state.now ≡ k.core.state.now

@@ -6,14 +6,12 @@ use Rattle.cs_daemon.specs.Deeds.{AreHandedOut, Deed, Does, Enters, Asks, Cuts, 
 use Rattle.cs_daemon.specs.InTurn.{InTurn}
 use Rattle.cs_daemon.proofs.Taking.{untaken_more}
 
--- the place is one of the journal
 abbrev pub IsIn : Desk → Type 0
 IsIn d = d.next ≤ length d.journal
 
 entered : (d n : Desk) (more : List _) → n ≡ with_entries more d → IsIn d → IsIn n
 entered d n more e place = subst IsIn (sym e) (let l = length-append d.journal more in omega (arith, l, place))
 
--- from any desk on
 from : (deeds : List Deed) (d last : Desk) → IsIn d → InTurn Does deeds d last → untaken d ++ started deeds ≡ got deeds ++ untaken last
 from [] d last place done = append-nil (untaken d) ∙ ap untaken (sym done)
 from (Enters more ∷ deeds) d last place done =

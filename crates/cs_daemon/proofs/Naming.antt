@@ -18,13 +18,12 @@ use Rattle.cs_daemon.specs.Starts.{start_in, starts_in}
 abbrev names : List Going → List Run
 names rs = map (λ g. g.run) rs
 
--- a run that starts comes behind those that have
+-- a run that starts comes after those that have
 begun : (a : Answer) (rs : List Going) (g : Going) → names (with_started a rs g) ≡ names rs ++ start_in (said a g.run)
 begun Starts rs g = map-append (λ (x : Going). x.run) rs (g ∷ [])
 begun Waits rs g = sym (append-nil (names rs))
 begun Skips rs g = sym (append-nil (names rs))
 
--- from a history on
 abbrev after : History → List (Event × Reply) → History
 after h [] = h
 after h (e ∷ es) = after (h ▸ e.0) es
@@ -50,7 +49,6 @@ after_told : (h : History) (es : List (Event × Reply)) → after h es ≡ fold 
 after_told h [] = refl
 after_told h (e ∷ es) = after_told (h ▸ e.0) es
 
--- what holds of each pair of runs that go on holds of their names
 named : (gs : List Going) (g : Going) → AllByRecursion (λ (q : Going). same_run g.run q.run ≡ false) gs → AllByRecursion (λ (q : Run). same_run g.run q ≡ false) (names gs)
 named [] g a = tt
 named (q ∷ gs) g a = (a.0, named gs g a.1)

@@ -16,7 +16,6 @@ use Rattle.cs_daemon.specs.Stamps.{AreKept, AreRead, AreWritten, IsOnlyRead, Wri
 
 -- ---- what is written for stamps
 
--- a stamp that is lacked is the one that there is
 is_lacked : (known stamp : Option ℕ) (day : ℕ) → lacked known stamp ≡ Some day → stamp ≡ Some day
 is_lacked known None day e = e
 is_lacked None (Some d) day e = e
@@ -26,7 +25,6 @@ is_lacked (Some b) (Some d) day e = go (b == d) e
     go true f = absurd (cc)
     go false f = f
 
--- and one that isn't is known
 is_known : (known stamp : Option ℕ) (day : ℕ) → stamp ≡ Some day → (lacked known stamp ≡ Some day) ⊎ (known ≡ Some day)
 is_known known None day e = absurd (cc)
 is_known None (Some d) day e = inl e
@@ -36,7 +34,7 @@ is_known (Some b) (Some d) day e = go (b == d) refl
     go true f = inr (ap Some (eqb-true b d f) ∙ e)
     go false f = inl e
 
--- it is of a job below the bound, and of these stamps
+-- a job below n, with its stamp among these
 record Fits (stamps : List (Option ℕ)) (n : ℕ) (p : ℕ × ℕ) : Type 0 where
   pub few : p.0 < n
   pub same : stamp_at stamps p.0 ≡ Some p.1
@@ -44,7 +42,6 @@ record Fits (stamps : List (Option ℕ)) (n : ℕ) (p : ℕ × ℕ) : Type 0 whe
 abbrev AllFit : List (Option ℕ) → ℕ → List (ℕ × ℕ) → Type 0
 AllFit stamps n ps = AllByRecursion (Fits stamps n) ps
 
--- one of a list
 abbrev IsIn : {X : Type 0} → X → List X → Type 0
 IsIn x [] = ⊥
 IsIn x (y ∷ ys) = (x ≡ y) ⊎ IsIn x ys
@@ -128,7 +125,6 @@ module _ (lines : List JobLine) (apart : HaveNames lines) where
       let fit = subst (AllFit stamps (length lines)) (sym written.which) (lacking_fit known stamps (length lines) (length lines) (omega arith)) in
       subst (λ (k : List (Option ℕ)). IsKnown k t) (sym written.noted) (all_known stamps known written.log s t fit so written.written)
 
-  -- a job's stamp that is known stays so
   stays : (stamps known : List (Option ℕ)) (ws : List Written) (s t : Shelf) (job : ℕ) → length known ≡ length lines → AllFit stamps (length lines) (map pair ws) → InTurn (WritesOne Writes lines) ws s t
       → stamp_at known job ≡ stamp_at stamps job → stamp_at (fold with_written known ws) job ≡ stamp_at stamps job
   stays stamps known [] s t job long fit done is = is
@@ -145,7 +141,6 @@ module _ (lines : List JobLine) (apart : HaveNames lines) where
           get_or-set_at known w.job job (Some w.day) None here (omega (arith, few, long)) ∙ sym fit.0.same ∙ ap (stamp_at stamps) (sym here)
       at false f = get_or-set_other known w.job job (Some w.day) None (eqb-false job w.job f) ∙ is
 
-  -- and one that is written comes to be
   comes : (stamps known : List (Option ℕ)) (ws : List Written) (s t : Shelf) (job day : ℕ) → length known ≡ length lines → AllFit stamps (length lines) (map pair ws) → InTurn (WritesOne Writes lines) ws s t
       → IsIn (job, day) (map pair ws) → stamp_at (fold with_written known ws) job ≡ stamp_at stamps job
   comes stamps known [] s t job day long fit done here = absurd here
@@ -216,7 +211,6 @@ kept_held d stamps old new apart kept =
     let between = turns_known lines apart d kept.between.lists (kept.read, kept.begun) (kept.known, kept.late) refl first kept.between.written in
     written_held lines apart stamps kept.known kept.known_then kept.late new between kept.last
 
--- a store that is only read holds what it held
 pub only_read : (lines : List JobLine) (old new : Shelf) → IsOnlyRead Reads lines old new → new ≡ old
 only_read lines old new (inl same) = same
 only_read lines old new (inr (known, read)) = (reads_held read.answers old new read.read).0

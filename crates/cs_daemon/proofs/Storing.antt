@@ -20,11 +20,9 @@ use Rattle.cs_daemon.specs.Stamps.{AreKept, AreLeft, AreRead, AreWritten, HaveBe
 
 -- ---- reading
 
--- nothing is read yet
 pub read_none : {S : Type 0} (reads : S → List ℕ → Stamp → S → Type 0) (lines : List JobLine) (s : S) → AreRead reads (take 0 lines) s [] s
 read_none reads lines s = record { answers = []; identifiers = refl; read = refl; said = refl }
 
--- one more
 pub read_one : {S : Type 0} (reads : S → List ℕ → Stamp → S → Type 0) (lines : List JobLine) (job : ℕ) (d : JobLine) (old mid new : S) (known : List (Option ℕ)) (answer : Stamp)
     → job < length lines → AreRead reads (take job lines) old known mid → reads mid (get_or lines job d).identifier answer new
     → AreRead reads (take (job + 1) lines) old (known ++ day_in answer ∷ []) new
@@ -59,7 +57,6 @@ pub record AreWrittenBelow {S : Type 0} (writes : S → List ℕ → ℕ → Boo
 pub write_none : {S : Type 0} (writes : S → List ℕ → ℕ → Bool → S → Type 0) (lines : List JobLine) (stamps known : List (Option ℕ)) (s : S) → AreWrittenBelow writes lines stamps known 0 s known s
 write_none writes lines stamps known s = record { log = []; which = refl; written = refl; noted = refl }
 
--- the next job
 pub lacking_next : (job : ℕ) (known stamps : List (Option ℕ)) → lacking (below (suc job)) known stamps ≡ lacking (below job) known stamps ++ lacks job (lacked (stamp_at known job) (stamp_at stamps job))
 lacking_next job known stamps =
     let f : ℕ → List (ℕ × ℕ) = λ j. lacks j (lacked (stamp_at known j) (stamp_at stamps j)) in

@@ -20,11 +20,10 @@ use Rattle.cs_keep.proofs.Ticks.{ticks_now}
 use Rattle.cs_daemon.specs.Starts.{Desk, HaveNoEnd, IsCut, IsRound, Rounds, desk, with_entries}
 use Rattle.cs_daemon.specs.Ticked.{IsFull, Wrote, events_of}
 
--- none of these events is an end
 abbrev pub NoEnds : List Event → Type 0
 NoEnds es = AllByRecursion (λ e. is_end e ≡ false) es
 
--- the same, named so that what it is of can be found
+-- the same as a record, from which the prover can infer the events
 record Endless (es : List Event) : Type 0 where
   pub none : NoEnds es
 
@@ -36,18 +35,17 @@ front : (xs ys : List Event) → NoEnds (xs ++ ys) → NoEnds xs
 front [] ys a = tt
 front (x ∷ xs) ys a = (a.0, front xs ys a.1)
 
--- Kinds of choices are named in the keep's crate alone.
+-- kinds of choices have a name only in the keep's crate
 abbrev domain : {A B : Type 0} → (A → B) → Type 0
 domain {A} f = A
 
 abbrev Kind : Type 0
 Kind = domain is_of
 
--- no end is of a kind
 no_kind : (k : Kind) (r : Run) → is_of k (End r) ≡ false
 no_kind k r = grind arith
 
--- so an event that is chosen is none
+-- an event that is chosen is no end
 of_kind : (k : Kind) (e : Event) → is_of k e ≡ true → is_end e ≡ false
 of_kind k (Minute t) h = refl
 of_kind k (Begin j) h = refl
@@ -132,32 +130,31 @@ grown t u last m (Err HistoryFull) h =
 grown t u last m (Err OutOfMemory) h =
     made t u h.1.made (front h.1.made h.1.rest (subst NoEnds h.1.whole (tick_ends (plan_of t.0) m t.0.core.state))) h.1.left
 
--- a round adds entries that no end is among, and may cut the journal
+-- a round adds entries without an end, and may cut the journal
 pub rounds : (old new : Keeping × Place) (from last m to : ℕ) (r : Result (Unit {0}) TickFault) → IsRound old from last m r new to → Rounds (desk old.0 from) (desk new.0 to)
 rounds old new from last m to r h =
     let g = grown old (h.between, new.1) last m r h.ticks in
     let added : desk h.between from ≡ with_entries g.more (desk old.0 from) = ap (λ (j : List (Event × Reply)). record { journal = j; next = from }) g.journal in
     (g.more, g.no_end, subst (λ (d : Desk). IsCut d (desk new.0 to)) added h.cut)
 
--- a cut leaves the core
 pub same_core : (k n : Keeping) → (n ≡ cut_here k) ⊎ (n ≡ k) → n.core ≡ k.core
 same_core k n (inl cut) = ap (λ (x : Keeping). x.core) cut
 same_core k n (inr same) = ap (λ (x : Keeping). x.core) same
 
--- so a round that isn't refused leads to its minute
+-- a round that isn't refused leads to its minute
 pub arrives : (old new : Keeping × Place) (from last m to : ℕ) (r : Result (Unit {0}) TickFault) → IsRound old from last m r new to → OnOk r (new.0.core.state.now ≡ m)
 arrives old new from last m to (Ok v) h =
     ap (λ (x : Standing). x.state.now) (same_core h.between new.0 h.keep) ∙ ticks_now old (h.between, new.1) last m (Ok v) h.ticks
 arrives old new from last m to (Err f) h = tt
 
--- so the place in the journal stays one
+-- the place in the journal stays within it
 pub ticks_place : (t u : Keeping × Place) (last m : ℕ) (r : Result (Unit {0}) TickFault) → Ticks t last m r u → (next : ℕ) → next ≤ length t.0.journal → next ≤ length u.0.journal
 ticks_place t u last m r h next place =
     let g = grown t u last m r h in
     let long = length-append t.0.journal g.more in
     subst (λ (j : List (Event × Reply)). next ≤ length j) (sym g.journal) (omega (arith, long, place))
 
--- a tick that finds the keep at the last minute finds the clock back only if the new minute is before it
+-- if the keep is at the last minute, the clock went back only if the new minute is before it
 pub ticks_back : (t u : Keeping × Place) (last m : ℕ) (r : Result (Unit {0}) TickFault) → Ticks t last m r u → t.0.core.state.now ≡ last → IfErr r (λ f. f ≡ ClockBack → m < last)
 ticks_back t u last m (Ok v) h same = tt
 ticks_back t u last m (Err f) h same = go f h

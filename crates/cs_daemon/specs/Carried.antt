@@ -9,7 +9,7 @@ use Rattle.cs_jobs.specs.Commands.{RunsJob}
 use Rattle.cs_daemon.specs.InTurn.{InTurn}
 
 module _ {W : Type 0} (runs : W → Asked → Outcome → W → Type 0) (d : Declared) where
-  -- The job's command is run, or memory runs out before it is.
+  -- the job's command is run, or memory runs out before it is
   abbrev pub CarriesOut : Run → W → Outcome → W → Type 0
   CarriesOut run old outcome new =
       RunsJob runs d run old outcome new ⊎ ((outcome ≡ NotStarted) × (new ≡ old))

@@ -38,8 +38,8 @@ started_by Cuts = []
 abbrev pub started : List Deed → List Run
 started deeds = flat_map started_by deeds
 
--- what workers got, and then what is still to be taken, are the starts of all journals: each is
--- handed out once at most, in order, and none is lost
+-- what workers got, then what is still to be taken, are the starts of all journals: each is handed
+-- out at most once, in order, and none is lost
 abbrev pub AreHandedOut : Type 0
 AreHandedOut = (deeds : List Deed) (last : Desk) → InTurn Does deeds empty last
     → got deeds ++ untaken last ≡ started deeds

@@ -1,4 +1,4 @@
--- A plan without jobs, for the ledger if no daemon runs.
+-- A plan without jobs, for the ledger where no daemon runs.
 use Rattle.std.specs.Prelude.{pos, [], None}
 use Rattle.cs_crontab.specs.Crontab as crontab
 use Rattle.cs_anacrontab.specs.Anacrontab as anacrontab

@@ -23,7 +23,7 @@ abbrev pub HaveNames : List JobLine → Type 0
 HaveNames lines = (i j : ℕ) → i < length lines → j < length lines
     → identifier_at lines i ≡ identifier_at lines j → i ≡ j
 
--- each stamp is held, under the identifier of its job
+-- each stamp is held under its job's identifier
 abbrev pub Holds : List JobLine → List (Option ℕ) → Shelf → Type 0
 Holds lines stamps shelf = (job day : ℕ) → job < length lines
     → stamp_at stamps job ≡ Some day → shelf (identifier_at lines job) ≡ Some day

@@ -9,11 +9,10 @@ use Rattle.cs_device.specs.declared.store.Stamp.{Stamp}
 use Rattle.cs_device.specs.declared.store.Stamp.TheVariants.{On, Absent, Failed}
 use Rattle.cs_daemon.specs.InTurn.{InTurn}
 
--- the day of a job's stamp, none past the last one
+-- the day of a job's stamp; none past the last one
 abbrev pub stamp_at : List (Option ℕ) → ℕ → Option ℕ
 stamp_at stamps job = slice_index_or stamps job None
 
--- the identifier of an anacron job, by its place in the anacrontab
 abbrev pub identifier_at : List JobLine → ℕ → List ℕ
 identifier_at lines job = (slice_index_or lines job no_line).identifier
 
@@ -26,7 +25,7 @@ day_in Absent = None
 day_in Failed = None
 
 module _ {S : Type 0} (reads : S → List ℕ → Stamp → S → Type 0) where
-  -- each job's stamp is read once, under its identifier, and these are known
+  -- each job's stamp is read once, in order, under its identifier; these are known then
   pub record AreRead (lines : List JobLine) (old : S) (known : List (Option ℕ)) (new : S)
       : Type 0 where
     pub answers : List (List ℕ × Stamp)
@@ -40,13 +39,13 @@ module _ {S : Type 0} (reads : S → List ℕ → Stamp → S → Type 0) where
 
 -- ---- writing
 
--- a stamp that was to be written: its job, its day, and whether it was written
+-- a stamp that was to be written, and whether it was
 pub record Written : Type 0 where
   pub job : ℕ
   pub day : ℕ
   pub done : Bool
 
--- a stamp that isn't the one that is known
+-- a stamp that isn't the known one
 abbrev pub lacked : Option ℕ → Option ℕ → Option ℕ
 lacked known None = None
 lacked None (Some day) = Some day
@@ -56,28 +55,28 @@ abbrev pub lacks : ℕ → Option ℕ → List (ℕ × ℕ)
 lacks job None = []
 lacks job (Some day) = (job, day) ∷ []
 
--- of these jobs those whose stamp isn't the one that is known, with the stamp
+-- those of these jobs that have a stamp which isn't the known one, with it
 abbrev pub lacking : List ℕ → List (Option ℕ) → List (Option ℕ) → List (ℕ × ℕ)
 lacking jobs known stamps =
     flat_map (λ job. lacks job (lacked (stamp_at known job) (stamp_at stamps job))) jobs
 
--- the stamps that a legal history of the plan leaves
+-- a legal history of the plan leaves these stamps
 pub record AreLeft (d : Declared) (stamps : List (Option ℕ)) : Type 0 where
   pub by : History
   pub legal : IsLegal (as_plan d) by
   pub same : stamps ≡ stamps_after (as_plan d) by
 
--- what is known behind a write
+-- what is known after a write
 abbrev pub with_written : List (Option ℕ) → Written → List (Option ℕ)
 with_written known w = if w.done then set known w.job (Some w.day) else known
 
 module _ {S : Type 0} (writes : S → List ℕ → ℕ → Bool → S → Type 0) where
-  -- a stamp is written under the identifier of its job
+  -- a stamp is written under its job's identifier
   abbrev pub WritesOne : List JobLine → S → Written → S → Type 0
   WritesOne lines old w new = writes old (identifier_at lines w.job) w.day w.done new
 
-  -- Of these stamps, those that aren't known are written, each once, in order, and no others. What
-  -- is written is known then.
+  -- of these stamps, those that aren't known are written, each once, in order, and no others; what
+  -- is written is known then
   pub record AreWritten (lines : List JobLine) (stamps known : List (Option ℕ)) (old : S)
       (known_then : List (Option ℕ)) (new : S) : Type 0 where
     pub log : List Written
@@ -85,21 +84,21 @@ module _ {S : Type 0} (writes : S → List ℕ → ℕ → Bool → S → Type 0
     pub written : InTurn (WritesOne lines) log old new
     pub noted : known_then ≡ fold with_written known log
 
-  -- the same of stamps that a legal history of the plan leaves, with what is known and the store
+  -- the same for stamps that a legal history of the plan leaves
   abbrev pub WritesNext : Declared → List (Option ℕ) × S → List (Option ℕ) → List (Option ℕ) × S
       → Type 0
   WritesNext d old stamps new =
       AreLeft d stamps × AreWritten d.anacrontab.lines stamps old.0 old.1 new.0 new.1
 
-  -- such lists of stamps came one after the other, and of each those not known by then were written
+  -- such lists of stamps came one after the other, and those of each that weren't known were
+  -- written
   pub record HaveBeenWritten (d : Declared) (known : List (Option ℕ)) (old : S)
       (known_then : List (Option ℕ)) (new : S) : Type 0 where
     pub lists : List (List (Option ℕ))
     pub written : InTurn (WritesNext d) lists (known, old) (known_then, new)
 
--- All that is done to a store for a keep of the plan that is left with these stamps: each is read
--- once, then stamps are written in turn, and at the end, of the keep's, those that the store isn't
--- known to have.
+-- all that is done to a store for a keep of the plan: each stamp is read once; then stamps are
+-- written in turn; at the end those of the keep that the store isn't known to have
 pub record AreKept {S : Type 0} (reads : S → List ℕ → Stamp → S → Type 0)
     (writes : S → List ℕ → ℕ → Bool → S → Type 0) (d : Declared)
     (stamps : List (Option ℕ)) (old new : S) : Type 0 where

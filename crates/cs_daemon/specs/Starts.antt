@@ -12,7 +12,6 @@ use Rattle.cs_keep.specs.Seat.{Place}
 use Rattle.cs_keep.specs.Tick.{Ticks}
 use Rattle.cs_keep.specs.declared.tick.TickFault.{TickFault}
 
--- the run that a reply starts
 abbrev pub start_in : Reply → List Run
 start_in Clock = []
 start_in (Started run) = run ∷ []
@@ -42,7 +41,7 @@ empty = record { journal = []; next = 0 }
 abbrev pub untaken : Desk → List Run
 untaken d = starts_in (drop d.next d.journal)
 
--- A worker gets the first of them. It gets none only if there is none.
+-- a worker gets the first of them; it gets none only if there is none
 pub record IsTaken (old : Desk) (got : Option Run) (new : Desk) : Type 0 where
   pub journal : new.journal ≡ old.journal
   pub place : new.next ≤ length new.journal
@@ -50,24 +49,23 @@ pub record IsTaken (old : Desk) (got : Option Run) (new : Desk) : Type 0 where
       ((untaken old ≡ []) × (untaken new ≡ []))
       (λ run. untaken old ≡ run ∷ untaken new)
 
--- entries come to the journal
 abbrev pub with_entries : List (Event × Reply) → Desk → Desk
 with_entries more d = record { journal = d.journal ++ more; next = d.next }
 
--- The journal begins anew, if each start was taken; or all stays.
+-- the journal begins anew, if each start was taken; or all stays
 abbrev pub IsCut : Desk → Desk → Type 0
 IsCut old new = ((untaken old ≡ []) × (new ≡ empty)) ⊎ (new ≡ old)
 
--- entries that no end is among
+-- none of the entries is an end
 abbrev pub HaveNoEnd : List (Event × Reply) → Type 0
 HaveNoEnd entries = AllByRecursion (λ e. is_end e.0 ≡ false) entries
 
--- entries come to the journal that no end is among, and then it may begin anew
+-- entries without an end come to the journal, and then it may begin anew
 abbrev pub Rounds : Desk → Desk → Type 0
 Rounds old new = (more : List (Event × Reply)) × HaveNoEnd more × IsCut (with_entries more old) new
 
--- What the clock's thread does in a round, from one place in the journal to another: the keep
--- ticks, and then its journal may begin anew at the state that it is in.
+-- a round of the clock's thread, from one place in the journal to another: the keep ticks, and then
+-- its journal may begin anew
 pub record IsRound (old : Keeping × Place) (from last minute : ℕ)
     (ticked : Result (Unit {0}) TickFault) (new : Keeping × Place) (to : ℕ) : Type 0 where
   pub between : Keeping
@@ -75,7 +73,7 @@ pub record IsRound (old : Keeping × Place) (from last minute : ℕ)
   pub keep : (new.0 ≡ cut_here between) ⊎ (new.0 ≡ between)
   pub cut : IsCut (desk between from) (desk new.0 to)
 
--- the end of a run is made, if it goes on; else all stays
+-- the end of a run is made if the run goes on; else all stays
 abbrev pub with_end : Keeping → Run → Keeping
 with_end k run =
     if list_any (λ x. same_run run x.run) k.core.state.running

@@ -6,12 +6,11 @@ use Rattle.cs_keep.specs.Keeping.{Keeping, plan_of, refusal_in}
 use Rattle.cs_keep.specs.Seat.{Place}
 use Rattle.cs_keep.specs.Tick.{tick_events}
 
--- the events of a journal
 abbrev pub events_of : Keeping → List Event
 events_of k = map (λ e. e.0) k.journal
 
--- A tick from the present minute to one that is not below it: of its events these came to the
--- journal, each counted once, and these were left.
+-- a tick from the present minute to that one or a later one: of its events, some came to the
+-- journal, each counted once, and the others were left
 pub record Wrote (t : Keeping × Place) (last m : ℕ) (u : Keeping × Place) (came left : List Event)
     : Type 0 where
   pub present : t.0.core.state.now ≡ last

@@ -21,7 +21,6 @@ use std::io;
 use std::sync::Wait;
 use std::sync::ledger::{Ledger, Share};
 
-/// What the clock's thread returns.
 #[derive(Drop)]
 pub(crate) struct ClockEnd<J: PlanLedger> {
     pub(crate) cause: Cause,
@@ -69,7 +68,6 @@ impl<'w, J: PlanLedger, T: Ledger, R: Wait, G, O: io::Write> Shared<'w, J, T, R,
         ClockEnd { cause, seat }
     }
 
-    /// Goes on to each minute of the clock, until there is a cause to end.
     fn keep_time<C: Clock, S: StampStore>(
         &self,
         clock: &mut C,
@@ -116,7 +114,7 @@ impl<'w, J: PlanLedger, T: Ledger, R: Wait, G, O: io::Write> Shared<'w, J, T, R,
         unreachable!()
     }
 
-    /// Goes on to the minute under the lock, then logs notices and writes new stamps.
+    /// The tick is made under the lock; logging and writing stamps come after it.
     fn go_on<S: StampStore>(
         &self,
         store: &mut S,
@@ -161,7 +159,6 @@ impl<'w, J: PlanLedger, T: Ledger, R: Wait, G, O: io::Write> Shared<'w, J, T, R,
         cause_to_end(ticked, minute)
     }
 
-    /// Logs an outage, and the tick's notices.
     fn tell(&self, notices: &Notices, last: Minute, minute: Minute) {
         let mut log = self.log.lock(self.rt);
         if minute.number() > last.number() + 1 {
@@ -172,7 +169,6 @@ impl<'w, J: PlanLedger, T: Ledger, R: Wait, G, O: io::Write> Shared<'w, J, T, R,
     }
 }
 
-/// Whether the daemon ends after a tick to the minute, and why.
 fn cause_to_end(ticked: Result<(), TickFault>, minute: Minute) -> Result<(), Cause>
     ensures value { result ≡ ended_by ticked minute }
     ensures ticked { OnOk result (IsOk ticked) }

@@ -1,4 +1,4 @@
-//! The end of a daemon.
+//! What a daemon does and returns at its end.
 ghost use Rattle.std.specs.Prelude.{◌≡◌, ◌≢◌, ◌+◌, ◌≤◌, IfSome, List, None, Option, Some, sum, ℕ};
 ghost use Rattle.arrayvec.specs.ArrayVec.{array_vec_len};
 ghost use Rattle.cs_check.specs.Checked.{plan_in};
@@ -32,7 +32,6 @@ fn no_shares(workers: usize) -> ArrayVec<u64, 65>
     shares
 }
 
-/// The end of a daemon that opened no keep.
 pub(crate) fn no_keep(cause: Cause, workers: usize, stamp_faults: u64, log_faults: u64) -> DaemonEnd
     requires { workers ≤ 64 }
     ensures cause { result.cause ≡ cause }
@@ -54,7 +53,6 @@ pub(crate) fn no_keep(cause: Cause, workers: usize, stamp_faults: u64, log_fault
     }
 }
 
-/// What the threads leave at their end.
 #[derive(Drop)]
 pub(crate) struct Left<J: PlanLedger> {
     keep: Keep<J>,
@@ -65,7 +63,7 @@ pub(crate) struct Left<J: PlanLedger> {
 }
 
 impl<J: PlanLedger> Left<J> {
-    /// Tries once more to write each stamp that the store lacks, and takes the counts.
+    /// Tries once more to write each stamp that the store lacks.
     pub(crate) fn behind<T: Ledger, R, G, S: StampStore, O: io::Write>(
         shared: Shared<'_, J, T, R, G, O>,
         store: &mut S,
@@ -100,7 +98,6 @@ impl<J: PlanLedger> Left<J> {
         }
     }
 
-    /// Closes the keep with the seat that has every part.
     pub(crate) fn close(self, checked: Checked, gathered: Gathered<J>) -> DaemonEnd
         requires plan { plan_in checked ≡ J.plan }
         requires parts { gathered.seat.parts ≡ J.parts }

@@ -1,4 +1,4 @@
-//! The commands of jobs.
+//! Runs the commands of jobs.
 ghost use Rattle.std.specs.Prelude.{◌≡◌};
 ghost use Rattle.cs_daemon.specs.Carried.{CarriesOut};
 
@@ -10,8 +10,8 @@ use cs_plan::Plan;
 use std::alloc::Global;
 use std::marker::Model;
 
-/// A run whose command has returned, or couldn't be started. Only [`carry_out`] makes one, and it can
-/// neither be copied nor be let go.
+/// A run whose command has returned, or couldn't be started. Only [`carry_out`] makes one, and it
+/// can be neither copied nor dropped.
 pub(crate) struct Returned {
     run: Run,
 }
@@ -25,7 +25,6 @@ impl Model for Returned {
 }
 
 impl Returned {
-    /// The run, of which nothing is left to end.
     pub(crate) fn into_run(self) -> Run
         ensures { result ≡ self }
     {
@@ -34,8 +33,7 @@ impl Returned {
     }
 }
 
-/// Runs the command of a start that was taken, and waits for its end. Without memory for its words
-/// it isn't started.
+/// Runs the command of a start and waits for its end. If memory runs out it isn't started.
 pub(crate) fn carry_out<W: Runner>(
     alloc: Global,
     plan: &Plan,

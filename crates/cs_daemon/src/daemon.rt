@@ -1,4 +1,4 @@
-//! The daemon whole.
+//! Runs a daemon as a whole.
 ghost use Rattle.std.specs.Prelude.{◌≡◌, ◌≢◌, ◌+◌, ◌<◌, ◌≤◌, IfErr, IfOk, IfSome, MatchOption, None, Some, slice_index_or, sum, vec_len};
 ghost use Rattle.arrayvec.specs.ArrayVec.{array_vec_len};
 ghost use Rattle.cs_check.specs.Checked.{plan_in};
@@ -36,7 +36,6 @@ use std::thread::Threads;
 /// 1970-01-04 00:00, the first minute at which a keep may open.
 const FIRST_START: u64 = 4_320;
 
-/// The clock's first minute, or why the daemon ends without one.
 fn first_minute<C: Clock>(clock: &mut C) -> Result<Minute, Cause>
     ensures start { IfOk result (λ m. first_start ≤ m) }
     ensures top { IfOk result (λ m. m ≤ C.top clock.new) }
@@ -61,7 +60,6 @@ fn first_minute<C: Clock>(clock: &mut C) -> Result<Minute, Cause>
     }
 }
 
-/// A book that says this minute, and its whole share.
 fn opened_at<T: Ledger>(blank: Blank, first: Minute) -> (Book<T>, Share<T>)
     requires { (blank.name ≡ T.name) × (blank.parts ≡ T.parts) × (0 < T.parts) }
     ensures book { result.0.total ≡ first }
@@ -72,8 +70,8 @@ fn opened_at<T: Ledger>(blank: Blank, first: Minute) -> (Book<T>, Share<T>)
     (book, share)
 }
 
-/// Reads the stamps of the store, and opens a keep with them in the first minute, down. There is
-/// none if memory runs out.
+/// Reads the stamps, and opens a keep with them in the first minute, down; `None` if memory runs
+/// out.
 fn open<J: PlanLedger, S: StampStore, O: io::Write>(
     alloc: Global,
     blank: Blank,
@@ -103,7 +101,6 @@ fn open<J: PlanLedger, S: StampStore, O: io::Write>(
     (stored, Some((keep, seat)))
 }
 
-/// Runs the plan from the clock's first minute on.
 fn run_on<
     J: PlanLedger + Send + Sync,
     T: Ledger + Send + Sync,
@@ -176,12 +173,12 @@ fn run_on<
     Left::behind(shared, store, stored).close(checked, gathered)
 }
 
-/// Runs a checked plan until the clock stops or the daemon can't go on: each run by one of the
-/// runners, as many as the plan's capacity, each in its own thread. What happens is logged.
+/// Runs a checked plan until the clock stops or the daemon can't go on. Each runner has its own
+/// thread, and there are as many as the plan's capacity. What happens is logged.
 ///
-/// The clock is asked first. A keep is opened in its first minute, down, with the stamps of the
-/// store; each further answer of the clock is one tick of the keep. In the end the keep goes down,
-/// the workers end, and unwritten stamps are tried once more.
+/// The keep opens in the clock's first minute, down, with the stamps of the store; each later
+/// answer of the clock is one tick. In the end the keep goes down, the workers end, and unwritten
+/// stamps are tried once more.
 pub fn run_daemon<
     R: Threads + Wait + Sync,
     C: Clock,
@@ -204,8 +201,7 @@ pub fn run_daemon<
     // No event of any thread is missing or made up.
     ensures sum { sum result.shares.items ≡ result.total }
     ensures none { result.keep ≡ None → result.total ≡ 0 }
-    // The keep is of the very value passed in, and its journal is a legal history of that plan that
-    // ends in the core's state.
+    // The keep has the very value passed in; its journal is a legal history of that plan.
     ensures checked { IfSome result.keep (λ kept. checked_in kept ≡ checked) }
     ensures kept { IfSome result.keep (λ kept. IsKept (keeping_in kept)) }
     ensures total { IfSome result.keep (λ kept. (keeping_in kept).total ≡ result.total) }

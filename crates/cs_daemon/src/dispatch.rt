@@ -20,8 +20,8 @@ use std::alloc::Global;
 use std::marker::Model;
 use std::sync::ledger::{Book, Ledger, Share};
 
-/// A start that was taken from the journal, to be run. Only [`Dispatch::take`] makes one, and it can
-/// neither be copied nor be let go.
+/// A start that was taken from the journal, to be run. Only [`Dispatch::take`] makes one, and it
+/// can be neither copied nor dropped.
 pub(crate) struct Taken {
     run: Run,
 }
@@ -35,14 +35,12 @@ impl Model for Taken {
 }
 
 impl Taken {
-    /// The run.
     pub(crate) fn run(&self) -> Run
         ensures { result ≡ self.now }
     {
         self.run
     }
 
-    /// The run, of which nothing is left to take.
     pub(crate) fn into_run(self) -> Run
         ensures { result ≡ self }
     {
@@ -51,9 +49,9 @@ impl Taken {
     }
 }
 
-/// The keep, the index in its journal from which starts are not taken yet, how many runs were found
-/// late, and whether no more starts will come. The book says in proofs which minute it is: the
-/// clock's thread has its share, so that no other thread goes on to a minute.
+/// The keep, the index in its journal from which starts aren't taken yet, how many runs were found
+/// late, and whether no more starts will come. The book holds the present minute in proofs: only
+/// the clock's thread, which has its share, can go on to another.
 #[derive(Drop)]
 pub(crate) struct Dispatch<J: PlanLedger, T: Ledger> {
     keep: Keep<J>,
@@ -66,21 +64,18 @@ pub(crate) struct Dispatch<J: PlanLedger, T: Ledger> {
     ghost present: { time.total ≡ keep.core.state.now },
 }
 
-/// What a tick leaves to do outside the lock.
+/// What is left to do outside the lock after a tick.
 #[derive(Drop)]
 pub(crate) struct Round {
     /// Why the tick ended early, if it did.
     pub(crate) ticked: Result<(), TickFault>,
     /// Whether a worker has a run to start.
     pub(crate) has_start: bool,
-    /// What to log.
     pub(crate) notices: Notices,
-    /// The stamps after the tick.
     pub(crate) stamps: CoreStamps,
 }
 
 impl<J: PlanLedger, T: Ledger> Dispatch<J, T> {
-    /// A keep that has handed out no start yet.
     pub(crate) fn new(keep: Keep<J>, time: Book<T>) -> Dispatch<J, T>
         requires plan { keep.core.plan ≡ J.plan }
         requires time { time.total ≡ keep.core.state.now }
@@ -94,12 +89,10 @@ impl<J: PlanLedger, T: Ledger> Dispatch<J, T> {
         }
     }
 
-    /// Whether there is no start now, and one may come.
     pub(crate) fn is_waiting(&self) -> bool {
         !self.over && self.next >= self.keep.journal().len()
     }
 
-    /// Takes the first start that nobody has taken.
     pub(crate) fn take(&mut self) -> Option<Taken>
         ensures taken { IsTaken
             (desk self.old.keep self.old.next)
@@ -119,8 +112,7 @@ impl<J: PlanLedger, T: Ledger> Dispatch<J, T> {
         }
     }
 
-    /// Makes the end of a run whose command has returned. No other end is made. It is refused only
-    /// where the run doesn't go on.
+    /// No other end is made. It is refused only where the run doesn't go on.
     #[tactic(auto, using(crate::proofs::Ending::ends))]
     pub(crate) fn end(&mut self, seat: &mut Seat<J>, returned: Returned)
         ensures keep { self.new.keep ≡ with_end self.old.keep returned }
@@ -132,8 +124,8 @@ impl<J: PlanLedger, T: Ledger> Dispatch<J, T> {
         let _ = self.keep.step(seat, Event::End(returned.into_run()));
     }
 
-    /// Goes down, if that isn't refused, and lets no more starts come; those that there are may be
-    /// taken. The seat's share is a number of 64 bits.
+    /// Goes down, if that isn't refused. No more starts come then; those in the journal may be
+    /// taken.
     pub(crate) fn go_down(&mut self, seat: &mut Seat<J>)
         ensures keep { (self.new.keep ≡ with_event self.old.keep GoesDown)
             ⊎ (self.new.keep ≡ self.old.keep) }
@@ -147,7 +139,7 @@ impl<J: PlanLedger, T: Ledger> Dispatch<J, T> {
         self.keep.audit(seat);
     }
 
-    /// Goes on to the minute, notes what to log, and starts a new journal if it may.
+    /// Goes on to the minute, notes what to log, and cuts the journal if that may be.
     pub(crate) fn round(
         &mut self,
         alloc: Global,
@@ -186,7 +178,6 @@ impl<J: PlanLedger, T: Ledger> Dispatch<J, T> {
         }
     }
 
-    /// Goes on to the minute.
     #[tactic(auto, using(crate::proofs::Ticking::ticks_place, crate::proofs::Ticking::ticks_back))]
     fn tick(
         &mut self,
@@ -214,7 +205,7 @@ impl<J: PlanLedger, T: Ledger> Dispatch<J, T> {
         ticked
     }
 
-    /// Starts a new journal if it may, so that it doesn't fill up. It may only if each start was taken.
+    /// Starts a new journal, so that it doesn't fill up; only where each start was taken.
     fn cut(&mut self)
         ensures desk { IsCut
             (desk self.old.keep self.old.next)
@@ -238,7 +229,6 @@ impl<J: PlanLedger, T: Ledger> Dispatch<J, T> {
         self.keep.audit(seat)
     }
 
-    /// The keep, and how many runs were found late.
     pub(crate) fn into_parts(self) -> (Keep<J>, u64)
         ensures { result.0.core.plan ≡ J.plan }
     {
@@ -253,7 +243,7 @@ impl<J: PlanLedger, T: Ledger> Dispatch<J, T> {
     }
 }
 
-/// The first start at an index or behind it, with its own index.
+/// The first start at an index or after it, with its own index.
 #[tactic(auto, using(crate::proofs::Taking::start_at, crate::proofs::Taking::no_start_at))]
 fn next_start(journal: &[Entry], from: usize) -> Option<(usize, Run)>
     ensures some { IfSome result (λ found. (found.0 < length journal.now)
@@ -269,7 +259,8 @@ fn next_start(journal: &[Entry], from: usize) -> Option<(usize, Run)>
     None
 }
 
-/// Notes which runs wait or are skipped, by the entries from an index on, of minute `last`.
+/// Notes which runs wait or are skipped, by the entries from an index on; before them it is minute
+/// `last`.
 fn note_replies(journal: &[Entry], notices: &mut Notices, from: usize, last: Minute) {
     let mut at = last.number();
     for place in from..journal.len() {
@@ -283,7 +274,6 @@ fn note_replies(journal: &[Entry], notices: &mut Notices, from: usize, last: Min
     }
 }
 
-/// Notes that a run waits or is skipped, if that is the reply to its begin.
 fn note_reply(notices: &mut Notices, reply: Reply, run: Run) {
     match reply {
         Reply::Waiting => notices.add(LogLine::Waiting(run)),
@@ -292,7 +282,7 @@ fn note_reply(notices: &mut Notices, reply: Reply, run: Run) {
     }
 }
 
-/// Notes which running runs are late at the minute, and were not at the last one. Returns how many.
+/// Notes which running runs have become late since the last minute, and returns how many.
 fn note_overruns(core: &Core, notices: &mut Notices, last: Minute, minute: Minute) -> u64 {
     let mut late: u64 = 0;
     for going in core.running().iter() {
@@ -305,7 +295,7 @@ fn note_overruns(core: &Core, notices: &mut Notices, last: Minute, minute: Minut
     late
 }
 
-/// The minute from which on a run of this job is late, if it started in that one.
+/// The first minute in which a run of this job is late.
 fn deadline(core: &Core, job: u16, since: u64) -> u64 {
     match core.plan().jobs().get(usize::from(job)) {
         Some(job) => since.saturating_add(u64::from(job.max())),

@@ -1,4 +1,4 @@
-//! How a daemon ends.
+//! How a daemon ends, and what it leaves.
 
 use arrayvec::ArrayVec;
 use cs_keep::Kept;
@@ -29,14 +29,14 @@ pub struct DaemonEnd {
     pub total: u64,
     /// How many of them the clock's thread made, and then each worker.
     pub shares: ArrayVec<u64, 65>,
-    /// The keep after its last event; None if the daemon ended before it opened one.
+    /// The keep after its last event; `None` if the daemon ended before it opened one.
     pub keep: Option<Kept>,
-    /// How many runs couldn't be started.
+    /// Runs that couldn't be started.
     pub not_started: u64,
-    /// How many runs were found past their declared time.
+    /// Runs that were found past their declared time.
     pub overruns: u64,
     /// How often a stamp couldn't be read or written.
     pub stamp_faults: u64,
-    /// How many log lines were lost.
+    /// Log lines that were lost.
     pub log_faults: u64,
 }

@@ -22,16 +22,15 @@ ghost use Rattle.cs_keep.specs.declared.tick.TickFault.TheVariants.{ClockBack, H
 
 use cs_history::names_differ;
 
-/// Lemma. What workers got of the starts of all journals, one journal after the other, and what is
-/// still to be taken of the last, are these starts, in order. So each is handed out once at most, and
-/// none is lost.
+/// Lemma. The starts that workers got, then those still to be taken, are the starts of all
+/// journals, in order: each is handed out at most once, and none is lost.
 #[tactic(auto, using(crate::proofs::Handing::handed_out))]
 pub fn starts_are_handed_out()
     ensures { AreHandedOut }
 {}
 
 /// Lemma. No two starts of a journal are of one run, if no anacron job is due on the day of its
-/// stamp. So none of it is handed out twice; of the journals after a cut nothing is said.
+/// stamp. Of journals after a cut nothing is said.
 pub fn starts_differ()
     ensures { (p : Plan) (base : Start) (es : List (Event × Reply)) (s : State)
         → ((j day : ℕ) → p.owed j (Some day) day ≡ false) → IsJournal p base es s
@@ -40,10 +39,9 @@ pub fn starts_differ()
     names_differ();
 }
 
-/// Lemma. A tick writes the events of its minute into the journal, or ends early. Where the clock
-/// went back, all stays as it was. Where the journal is full, it has the events before the next one,
-/// which finds no room. Where memory runs out, it has the first ones. Only where the clock went back
-/// isn't it a tick from the present minute to that one or a later one.
+/// Lemma. A tick from the present minute on writes the events of its minute into the journal. If
+/// the clock went back, all stays as it was. If the journal is full, or memory runs out, the first
+/// events are written; a full journal has no room for the next one.
 pub fn what_a_tick_says()
     ensures done { (t u : Keeping × Place) (last m : ℕ) (v : Unit {0})
         → Ticks t last m (Ok v) u
@@ -67,8 +65,8 @@ pub fn what_a_round_says()
         → OnOk r (new.0.core.state.now ≡ m) }
 {}
 
-/// Lemma. A store that does what it is asked holds each stamp of the keep in the end, under the
-/// identifier of its job, if no two jobs have one. With no keep it holds what it held.
+/// Lemma. A store that does what it is asked ends with each stamp of the keep under its job's
+/// identifier, if no two jobs have one identifier. Without a keep it is unchanged.
 pub fn what_a_store_holds()
     ensures held { (d : Declared) (stamps : List (Option ℕ)) (old new : Shelf)
         → HaveNames d.anacrontab.lines → AreKept Reads Writes d stamps old new

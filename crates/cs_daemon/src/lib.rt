@@ -1,4 +1,4 @@
-//! The daemon: runs a checked plan by a clock, with threads and devices around a keep.
+//! Runs a checked plan as a daemon: by a clock, with threads and devices around a keep.
 #![tactic(auto)]
 
 mod clock_thread;

@@ -5,7 +5,7 @@ use cs_plan::Plan;
 use std::alloc::Global;
 use std::io;
 
-/// A log of a plan's runs. Each line is made in memory first and then written by one write; a line
+/// The log of a plan's runs. Each line is made in memory first, then written by one write; a line
 /// that can't be made or written is lost, and counted.
 #[derive(Drop)]
 pub(crate) struct Log<'w, O> {
@@ -17,7 +17,6 @@ pub(crate) struct Log<'w, O> {
 }
 
 impl<'w, O: io::Write> Log<'w, O> {
-    /// No line yet.
     pub(crate) fn new(alloc: Global, plan: &'w Plan, out: &'w mut O) -> Log<'w, O> {
         Log {
             alloc,
@@ -28,12 +27,10 @@ impl<'w, O: io::Write> Log<'w, O> {
         }
     }
 
-    /// How many lines are lost.
     pub(crate) fn faults(&self) -> u64 {
         self.faults
     }
 
-    /// Counts this many lines as lost.
     pub(crate) fn lose(&mut self, lines: u64) {
         self.faults = self.faults.saturating_add(lines);
     }
@@ -50,14 +47,12 @@ impl<'w, O: io::Write> Log<'w, O> {
         }
     }
 
-    /// Writes that these anacron jobs' stamps couldn't be read.
     pub(crate) fn write_unread(&mut self, jobs: &[usize]) {
         for job in jobs {
             self.write(LogLine::StampNotRead(*job));
         }
     }
 
-    /// Writes that these anacron jobs' stamps couldn't be written.
     pub(crate) fn write_unwritten(&mut self, jobs: &[usize]) {
         for job in jobs {
             self.write(LogLine::StampNotWritten(*job));

@@ -3,7 +3,7 @@
 use cs_jobs::LogLine;
 use std::alloc::Global;
 
-/// Lines to log, and how many were lost because memory ran out.
+/// Lines to log, and how many more were lost because memory ran out.
 #[derive(Drop)]
 pub(crate) struct Notices {
     lines: Vec<LogLine>,
@@ -11,7 +11,6 @@ pub(crate) struct Notices {
 }
 
 impl Notices {
-    /// None yet.
     pub(crate) fn none(alloc: Global) -> Notices {
         Notices {
             lines: Vec::new(alloc),
@@ -19,7 +18,6 @@ impl Notices {
         }
     }
 
-    /// Adds a line, or counts it as lost.
     pub(crate) fn add(&mut self, line: LogLine) {
         if self.lines.push(line).is_err() {
             self.lost = self.lost.saturating_add(1);
@@ -30,7 +28,6 @@ impl Notices {
         self.lines.as_slice()
     }
 
-    /// How many lines were lost.
     pub(crate) fn lost(&self) -> u64 {
         self.lost
     }

@@ -1,10 +1,9 @@
-//! The ledger of a daemon's keep.
+//! The ledger of a daemon's keep, with the plan that the daemon runs.
 ghost use Rattle.cs_daemon.specs.NoPlan.{no_plan};
 
 use std::marker::Brand;
 use std::sync::ledger::Ledger;
 
-/// The ledger of one daemon's keep, with the plan that the daemon runs.
 pub(crate) trait PlanLedger: Ledger {
     ghost use Rattle.cs_plan.specs.Plan.{Declared};
 

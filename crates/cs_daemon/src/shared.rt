@@ -11,8 +11,8 @@ use std::io;
 use std::sync::ledger::Ledger;
 use std::sync::{Condvar, Mutex, Wait};
 
-/// The plan, the gate, and two locks: one for the keep, with a bell for the workers that wait for a
-/// start, and one for the log. A thread holds at most one of them.
+/// One lock is for the keep, with a bell for workers that wait for a start, and one for the log; a
+/// thread holds at most one of them.
 pub(crate) struct Shared<'w, J: PlanLedger, T: Ledger, R, G, O> {
     pub(crate) rt: &'w R,
     pub(crate) alloc: Global,
@@ -25,7 +25,7 @@ pub(crate) struct Shared<'w, J: PlanLedger, T: Ledger, R, G, O> {
 }
 
 impl<'w, J: PlanLedger, T: Ledger, R: Wait, G, O: io::Write> Shared<'w, J, T, R, G, O> {
-    /// Waits for a start. None when all is over.
+    /// Waits for a start; `None` when no more will come.
     pub(crate) fn next(&self) -> Option<Taken> {
         let mut guard = self.dispatch.lock(self.rt);
         for _ in self.rt.forever() {
@@ -41,8 +41,7 @@ impl<'w, J: PlanLedger, T: Ledger, R: Wait, G, O: io::Write> Shared<'w, J, T, R,
         None
     }
 
-    /// Goes down, under the lock, and lets the workers end when no start is left. The share is a
-    /// number of 64 bits.
+    /// Goes down, and lets the workers end when no start is left.
     pub(crate) fn go_down(&self, seat: &mut Seat<J>)
         ensures grows { seat.old.share ≤ seat.new.share }
         ensures parts { seat.new.parts ≡ seat.old.parts }

@@ -33,7 +33,6 @@ impl Model for CoreStamps {
     ghost view = { λ a. a.stamps.items };
 }
 
-/// The stamps of the keep's core.
 pub(crate) fn stamps_of<L: Ledger>(keep: &Keep<L>) -> CoreStamps
     ensures stamps { result ≡ keep.now.core.state.stamps }
     ensures kept { IsKept keep.now }
@@ -45,7 +44,7 @@ pub(crate) fn stamps_of<L: Ledger>(keep: &Keep<L>) -> CoreStamps
     }
 }
 
-/// The stamps that the store holds, as far as is known, and how often it failed.
+/// The stamps that the store is known to hold, and how often it failed.
 #[derive(Drop)]
 pub(crate) struct Stored {
     pub(crate) stamps: Stamps,
@@ -53,7 +52,7 @@ pub(crate) struct Stored {
 }
 
 impl Stored {
-    /// Reads the stamp of each job. One that can't be read is none.
+    /// Reads the stamp of each job. One that can't be read counts as none.
     #[tactic(auto, using(crate::proofs::Storing::read_none, crate::proofs::Storing::read_one, crate::proofs::Storing::read_all))]
     pub(crate) fn read<S: StampStore>(plan: &Plan, store: &mut S) -> (Stored, Failed)
         ensures read { AreRead S.reads plan.now.anacrontab.lines
@@ -75,7 +74,6 @@ impl Stored {
         (Stored { stamps, faults }, failed)
     }
 
-    /// The stamps that the store holds.
     pub(crate) fn stamps(&self) -> Stamps
         ensures { result.items ≡ self.now.stamps.items }
     {
@@ -111,7 +109,6 @@ impl Stored {
         failed
     }
 
-    /// Notes that the store holds this stamp, or that it failed.
     fn note(&mut self, job: usize, day: Day, done: bool)
         ensures stamps { self.new.stamps.items
             ≡ with_written self.old.stamps.items (record { job = job; day = day; done = done }) }
@@ -128,7 +125,6 @@ impl Stored {
     }
 }
 
-/// Adds the item if there is room.
 fn add<T: Default + Drop>(items: &mut ArrayVec<T, 64>, item: T)
     ensures { array_vec_len items.old < 64 → items.new.items ≡ items.old.items ++ item ∷ [] }
 {
@@ -137,7 +133,6 @@ fn add<T: Default + Drop>(items: &mut ArrayVec<T, 64>, item: T)
     }
 }
 
-/// The day of a stamp that was read.
 fn day_in(stamp: Stamp) -> Option<Day>
     ensures { result ≡ day_in stamp }
 {
@@ -147,7 +142,6 @@ fn day_in(stamp: Stamp) -> Option<Day>
     }
 }
 
-/// The stamp, if it isn't the one that is known.
 fn lacked(known: Option<Day>, stamp: Option<Day>) -> Option<Day>
     ensures { result ≡ lacked known stamp }
 {

@@ -22,7 +22,7 @@ use std::sync::ledger::{Ledger, Share};
 use std::thread::{Scope, Threads};
 use std::{io, thread};
 
-/// What the threads so far returned. The seat holds all of their parts.
+/// What the joined threads returned. The seat holds all of their parts.
 #[derive(Drop)]
 pub(crate) struct Gathered<J: PlanLedger> {
     pub(crate) cause: Cause,
@@ -62,8 +62,8 @@ impl<J: PlanLedger> Gathered<J> {
     }
 }
 
-/// Starts a thread for the first runner, goes on with the rest, and joins it. Without runners left
-/// this thread follows the clock. If a thread can't be made the clock isn't asked.
+/// Starts a thread for the first runner, goes on with the rest, and joins it. With no runner left,
+/// this thread follows the clock. If a thread can't be made, the clock isn't asked.
 fn with_workers<
     's,
     'a: 's,
@@ -134,7 +134,7 @@ fn with_workers<
     gathered
 }
 
-// This use of a returned reference, which does nothing, ties it to the parameter that lent it.
+// A use that does nothing, and ties a returned reference to the parameter that lent it.
 fn take_back<T>(x: &mut T)
     ensures { x.new ≡ x.old }
 {}

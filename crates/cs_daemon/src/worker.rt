@@ -15,7 +15,6 @@ use std::io;
 use std::sync::Wait;
 use std::sync::ledger::Ledger;
 
-/// What a worker returns.
 #[derive(Drop)]
 pub(crate) struct WorkerEnd<J: PlanLedger> {
     pub(crate) seat: Seat<J>,
@@ -25,7 +24,8 @@ pub(crate) struct WorkerEnd<J: PlanLedger> {
 }
 
 impl<'w, J: PlanLedger, T: Ledger, R: Wait, G: Gate, O: io::Write> Shared<'w, J, T, R, G, O> {
-    /// Runs jobs until no start will come. It makes no more ends than commands that have returned.
+    /// Runs jobs until no more starts will come. It makes no more ends than commands that have
+    /// returned.
     pub(crate) fn work<W: Runner>(&self, runner: &mut W, seat: Seat<J>) -> WorkerEnd<J>
         requires { seat.parts ≡ 1 }
         ensures { (runs : List (run.Run × outcome.Outcome))

@@ -1,4 +1,3 @@
--- Lists in which each item and the next pass a test.
 use Rattle.std.proofs.Common.{◌≡◌, ℕ, ◌+◌, ◌<◌, zero, suc, Bool, true, false, ◌&&◌, List, [], ◌∷◌, length, refl, arith}
 use Rattle.std.specs.List.{IsAllAdjacentAnswer}
 use Rattle.std.specs.Prelude.{slice_index_or}
@@ -32,7 +31,6 @@ module _ {A : Type 0} (test : A → A → Bool) where
   some_fails (a ∷ b ∷ xs) zero below h = first_false (test a b) (each_next test (b ∷ xs)) (h a)
   some_fails (a ∷ b ∷ xs) (suc k) below h = and_false (test a b) (each_next test (b ∷ xs)) (some_fails (b ∷ xs) k (omega arith) (λ d. rw (step k) at (h d)))
 
-  -- the answer of `is_sorted_by`
   pub sorted_by : (xs : List A) (r : Bool) → IsAllAdjacentAnswer (λ x y b. b ≡ test x y) xs r → r ≡ each_next test xs
   sorted_by xs true h = all_pass xs h
   sorted_by xs false h = some_fails xs h.0 h.1 h.2

@@ -1,4 +1,3 @@
--- Which splits of a tree are possible.
 use Rattle.std.specs.Prelude.{ℕ, Bool, true, false, ◌&&◌, not, List, nat_lt, length, filter, if◌then◌else◌}
 use Rattle.std.specs.List.{list_all, range_with_len}
 use Rattle.cs_daytree.specs.declared.tree.KindPart.{KindPart}
@@ -35,7 +34,7 @@ unfoldable pub kept : List ℕ → Bool → List ℕ → List ℕ
 kept values inside numbers =
     filter (λ number. if inside then has values number else not (has values number)) numbers
 
--- and that of one part
+-- the numbers that one side of a split leaves
 abbrev pub narrowed : KindPart → List ℕ → Bool → Numbers → Numbers
 narrowed part values inside p = with_numbers part (kept values inside (numbers_of part p)) p
 
@@ -44,7 +43,7 @@ abbrev pub is_part_of : List ℕ → List ℕ → Bool
 is_part_of values possible = rises values && nat_lt 0 (length values)
     && list_all (has possible) values && nat_lt (length values) (length possible)
 
--- whether each split's values are a part of what the splits above leave
+-- each split's values are a part of what the splits above leave
 unfoldable pub splits_fit : Numbers → Tree → Bool
 splits_fit p (leaf class) = true
 splits_fit p (split part values inside outside) =

@@ -1,4 +1,3 @@
--- Lists in order.
 use Rattle.std.specs.Prelude.{ℕ, Bool, true, ◌&&◌, List, [], ◌∷◌, nat_lt}
 
 -- each item and the next pass the test
@@ -7,6 +6,5 @@ each_next test [] = true
 each_next test (a ∷ []) = true
 each_next test (a ∷ b ∷ rest) = test a b && each_next test (b ∷ rest)
 
--- each is less than the next
 abbrev pub rises : List ℕ → Bool
 rises numbers = each_next nat_lt numbers

@@ -1,4 +1,3 @@
--- Trees over the kinds of days.
 use Rattle.std.specs.Prelude.{ℕ, ◌+◌, max, Bool, List, nat_eq, if◌then◌else◌}
 use Rattle.std.specs.List.{list_any}
 use Rattle.cs_civil.specs.Calendar.{Kind}
@@ -16,13 +15,11 @@ tree_of (Leaf class) = leaf class
 tree_of (Split' part values p inside q outside) =
     split part values (tree_of inside) (tree_of outside)
 
--- the number that a kind has there
 abbrev pub number_of : KindPart → Kind → ℕ
 number_of Month kind = kind.month
 number_of Day kind = kind.dom
 number_of Weekday kind = kind.dow
 
--- whether the number is one of the values
 abbrev pub has : List ℕ → ℕ → Bool
 has values number = list_any (λ value. nat_eq value number) values
 
@@ -32,7 +29,6 @@ class_in (leaf class) kind = class
 class_in (split part values inside outside) kind =
     if has values (number_of part kind) then class_in inside kind else class_in outside kind
 
--- the greatest class number of a leaf
 abbrev pub greatest_class : Tree → ℕ
 greatest_class (leaf class) = class
 greatest_class (split part values inside outside) =

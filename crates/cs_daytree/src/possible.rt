@@ -1,5 +1,3 @@
-//! The numbers of each part of a kind that are possible below some splits.
-
 ghost use Rattle.std.specs.Prelude.{◌≡◌, ◌≤◌, length};
 ghost use Rattle.std.specs.List.{list_all};
 ghost use Rattle.cs_daytree.specs.Tree.{has, tree_of};
@@ -21,7 +19,6 @@ const DAYS: [u8; 31] = [
 
 const WEEKDAYS: [u8; 7] = [0, 1, 2, 3, 4, 5, 6];
 
-/// Whether each value and the next rise.
 fn rises(values: &[u8]) -> bool
     ensures { result ≡ rises values.now }
 {
@@ -34,7 +31,6 @@ fn are_possible(values: &[u8], possible: &[u8]) -> bool
     values.iter().all(|value| has(possible, *value))
 }
 
-/// Whether the values rise strictly and are some of the possible numbers, at least one but not all.
 fn is_part_of(values: &[u8], possible: &[u8]) -> bool
     ensures { result ≡ is_part_of values.now possible.now }
 {
@@ -44,7 +40,6 @@ fn is_part_of(values: &[u8], possible: &[u8]) -> bool
         && values.len() < possible.len()
 }
 
-/// The numbers that are among the values, or those that aren't.
 #[tactic(auto, unfolding(crate::specs::Possible::kept))]
 fn kept(numbers: &[u8], values: &[u8], inside: bool) -> ArrayVec<u8, MOST>
     requires { length numbers.now ≤ MOST }
@@ -69,7 +64,6 @@ impl DayTree {
         self.fits(&MONTHS, &DAYS, &WEEKDAYS)
     }
 
-    /// Like `splits_fit`, below splits that leave these numbers.
     #[tactic(auto, unfolding(crate::specs::Possible::splits_fit))]
     fn fits(&self, months: &[u8], days: &[u8], weekdays: &[u8]) -> bool
         requires months { length months.now ≤ MOST }

@@ -17,8 +17,8 @@ pub enum KindPart {
 /// A class for each kind of day.
 ///
 /// A split looks at one part of the kind: `inside` decides the kinds whose number is among its
-/// values, `outside` the others. Other splits than [`splits_fit`](DayTree::splits_fit) accepts are
-/// possible; each method says what they mean.
+/// values, `outside` the others. Splits other than [`splits_fit`](DayTree::splits_fit) accepts can
+/// be made; each method says what they mean.
 #[derive(Drop)]
 pub enum DayTree {
     /// The class of all kinds.
@@ -74,7 +74,7 @@ impl DayTree {
         }
     }
 
-    /// Returns the greatest class number of a leaf.
+    /// Returns the greatest class of a leaf.
     pub fn greatest_class(&self) -> u32
         ensures { result ≡ greatest_class (tree_of self.now) }
     {
@@ -89,8 +89,8 @@ impl DayTree {
         }
     }
 
-    /// Checks whether the depth is at most the limit: 0 for a leaf, else one more than the deeper
-    /// half.
+    /// Checks whether the depth is at most the limit. It is 0 for a leaf, else one more than that
+    /// of the deeper half.
     pub fn is_no_deeper_than(&self, limit: u8) -> bool
         ensures { result ≡ nat_le (depth (tree_of self.now)) limit }
     {

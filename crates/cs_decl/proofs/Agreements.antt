@@ -2,7 +2,6 @@
 use Rattle.std.proofs.Common.{◌≡◌, ◌&&◌, ◌-◌, ◌+◌, ◌<◌, ◌∙◌, ℕ, suc, Bool, true, ap, arith}
 use Rattle.std.specs.List.{list_all, range_with_len}
 
--- the first of them, and those behind it
 first_and_later : (p : ℕ → Bool) (n end : ℕ) → n < end
     → list_all p (range_with_len n (end - n)) ≡ (p n && list_all p (range_with_len (n + 1) (end - (n + 1))))
 first_and_later p n end below =

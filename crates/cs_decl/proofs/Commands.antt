@@ -51,7 +51,7 @@ module _ (c : Crontab) (a : Anacrontab) (d : Entries) (plan : Declared) (made : 
 all_names : (d : Entries) (P : LineName → Type 0) → All (λ e. P e.name) d.cron → All P d.left_out → All P (names_of d)
 all_names d P crons left_out = All-append P (map (λ e. e.name) d.cron) d.left_out (All-map P (λ e. e.name) d.cron crons) left_out
 
--- ---- the commands that they tell
+-- ---- the commands that they give
 
 own : (command : List ℕ) (told : Option (List ℕ)) → is_unlike command told ≡ false → IfSome told (λ text. text ≡ command)
 own command None e = tt
@@ -106,7 +106,7 @@ same_one p xs x y one (i, low, is) px (j, high, at) py =
     let same : get_or xs i x ≡ get_or xs j y = cc in
     sym is ∙ same ∙ at
 
--- what a name tells is told of a line that it names
+-- a line's own command and schedule name it, if the name gives a command
 told_of : (name : LineName) (line : CommandLine) (told : Option (List ℕ)) → name.command ≡ told → IfSome told (λ text. text ≡ line.command) → is_told_when name.when line.when ≡ true → (is_told name line ≡ true) ⊎ (told ≡ None)
 told_of name line None is own when = inr refl
 told_of name line (Some text) is own when = inl (rw (is, (bytes_eq-Decides text line.command).1 own, when) refl)

@@ -20,7 +20,6 @@ pub record IsLeast (p : ℕ → Bool) (o : Option ℕ) : Type 0 where
   pub some : (i : ℕ) → o ≡ Some i → (p i ≡ true) × ((j : ℕ) → p j ≡ true → i ≤ j)
   pub none : o ≡ None → (j : ℕ) → p j ≡ true → ⊥
 
--- one more in front
 least_step : (p q : ℕ → Bool) (b : Bool) (o : Option ℕ) → q 0 ≡ b → ((j : ℕ) → q (suc j) ≡ p j) → IsLeast p o → IsLeast q (cond b (Some 0) (option_map suc o))
 least_step p q true o e later l = record { some = λ i h. let z : 0 ≡ i = cc in rw (← z) (e, λ j g. omega arith); none = λ h. cc }
 least_step p q false None e later l = record { some = λ i h. cc; none = λ h j g. none_at p q e later (l.none refl) j g }

@@ -20,14 +20,12 @@ use Rattle.cs_decl.proofs.Wholes.{plan_places}
 use Rattle.cs_decl.proofs.Parted.{parted}
 use Rattle.cs_decl.proofs.Commands.{declared_right, plan_is}
 
--- ---- the job at a place
-
 at_place : (job : ℕ → CommandLine → DeclaredJob) (more : List DeclaredJob) (k : ℕ) (lines : List CommandLine) (j : ℕ) (low : j < length lines) → get_or (jobs_from job k lines ++ more) j no_job ≡ job (k + j) (get_or lines j no_command)
 at_place job more k [] j low = absurd (omega (arith, low))
 at_place job more k (line ∷ lines) zero low = let e : k ≡ k + 0 = omega arith in ap (λ n. job n line) e
 at_place job more k (line ∷ lines) (suc j) low = let e : k + 1 + j ≡ k + suc j = omega arith in at_place job more (k + 1) lines j (omega (arith, low)) ∙ ap (λ n. job n (get_or lines j no_command)) e
 
--- a job without an entry has the default, where it may have none but that
+-- a job without an entry has the default, if nothing is undeclared
 with_default : (d : Entries) (line : CommandLine) (k : ℕ) (o : Option DefaultEntry) → d.default ≡ o → is_reboot line.when ≡ false → has_entry d line ≡ false → is_undeclared d line ≡ false → HasDefault d (default_terms k d.default)
 with_default d line k (Some e) is timed none declared = (e, is, rw is refl, rw is refl, rw is refl, rw is refl)
 with_default d line k None is timed none declared = let no : is_undeclared d line ≡ true = rw (is, timed, none) refl in cc
@@ -37,8 +35,6 @@ declared_by d line k (Some e) is timed declared = let (there, named) = found_the
 declared_by d line k None is timed declared =
     let none = find_none (λ x. is_named x.name line) d.cron is in
     inr (none, with_default d line k d.default refl timed (list_any_none (λ x. is_named x.name line) d.cron none) declared)
-
--- ---- jobs without an entry
 
 entered : (a b : Bool) → (not a && not b) ≡ false → a ≡ false → b ≡ true
 entered a true e f = refl

@@ -82,8 +82,6 @@ schedules_are_right lines d e =
       left_out = mapped_none (λ i. (faults.OtherSchedule, Some (LeftOut i))) (position (has_other_schedule lines) d.left_out) r1.0;
     }
 
--- ---- what is wrong with names comes first
-
 pub past_names : (c : Crontab) (a : Anacrontab) (d : Entries) → first_fault (naming_faults c.lines a.lines d) ≡ None → joined c a d ≡ unless (plan_of (rest d c) (lines_left_out d c) (untimed d c.lines) a d) (first_fault (undeclared (rest d c).lines a.lines d ++ mistimed c.lines d))
 unfolding joined
 past_names c a d e = ap (unless (plan_of (rest d c) (lines_left_out d c) (untimed d c.lines) a d)) (behind (naming_faults c.lines a.lines d) (undeclared (rest d c).lines a.lines d ++ mistimed c.lines d) e)

@@ -5,7 +5,6 @@ use Rattle.std.specs.List.{list_any}
 use Rattle.cs_decl.specs.declared.entries.PartEntry.{PartEntry}
 use Rattle.cs_decl.proofs.Positions.{first_at, position_is}
 
--- where no time is bad, none is longer than the most
 pub none_of : (p : PartEntry → Bool) (parts : List PartEntry) (i : ℕ) (d : PartEntry) → i < length parts → list_any p parts ≡ false → p (get_or parts i d) ≡ false
 none_of p [] i d within none = absurd (omega (arith, within))
 none_of p (x ∷ xs) zero d within none = head (p x) none
@@ -18,8 +17,6 @@ none_of p (x ∷ xs) (suc i) d within none = none_of p xs i d (omega (arith, wit
     tail : (b : Bool) → (b || list_any p xs) ≡ false → list_any p xs ≡ false
     tail true e = cc
     tail false e = e
-
--- ---- the first that passes a test, counted from a number on
 
 abbrev pub first_from : {A : Type 0} → (A → Bool) → ℕ → List A → Option ℕ
 first_from p i [] = None

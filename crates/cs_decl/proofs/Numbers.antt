@@ -8,7 +8,6 @@ use Rattle.std.proofs.lemmas.List.{drop_more, take_more}
 use Rattle.cs_decl.specs.Faults.{same_number, first_again}
 use Rattle.cs_decl.proofs.Texts.{any_push, if_true, if_false}
 
--- what is absent is like nothing
 none_like : (xs : List (Option ℤ)) → list_any (same_number None) xs ≡ false
 none_like [] = refl
 none_like (x ∷ xs) = none_like xs
@@ -17,7 +16,6 @@ or_false : (b : Bool) → (b || false) ≡ b
 or_false true = refl
 or_false false = refl
 
--- a number that is in the set already, or is added
 any_insert : (n : ℤ) (ks : List ℤ) (v : ℤ) → list_any (int_eq n) (insert_key int_eq ks v) ≡ (list_any (int_eq n) ks || int_eq n v)
 any_insert n ks v = by_cases (list_any (int_eq v) ks) refl
   where
@@ -39,9 +37,7 @@ with_number keys numbers m has = λ n. any_insert n keys m ∙ (rw (has n) refl 
 pub with_none : (keys : List ℤ) (numbers : List (Option ℤ)) → HasNumbers keys numbers → HasNumbers keys (numbers ++ None ∷ [])
 with_none keys numbers has = λ n. has n ∙ sym (any_push (same_number (Some n)) numbers None ∙ or_false _)
 
--- ---- one number after the other
-
--- what comes twice of before and the first i, and of the others
+-- what is found twice after `before` and the first i is found twice in all
 abbrev pub Comes : List (Option ℤ) → List (Option ℤ) → ℕ → Option ℕ → Type 0
 Comes before numbers i total = first_again same_number (before ++ take i numbers) i (drop i numbers) ≡ total
 

@@ -19,7 +19,6 @@ pub any_map : {A B : Type 0} (f : A → B) (p : B → Bool) (xs : List A) → li
 any_map f p [] = refl
 any_map f p (x ∷ xs) = rw (any_map f p xs) refl
 
--- one that passes is there
 further : {A : Type 0} (x y : A) (xs : List A) → Contains xs y → Contains (x ∷ xs) y
 further x y xs (k, below, is) = (suc k, omega (arith, below), is)
 
@@ -41,8 +40,6 @@ found_step p y ys x false is e more = let later = more e in (further y x ys late
 pub found_there : {A : Type 0} (p : A → Bool) (xs : List A) (x : A) → find p xs ≡ Some x → Contains xs x × (p x ≡ true)
 found_there p [] x e = absurd cc
 found_there p (y ∷ ys) x e = found_step p y ys x (p y) refl e (found_there p ys x)
-
--- ---- how many pass
 
 count_cons : {A : Type 0} (p : A → Bool) (x : A) (xs : List A) → count_by p (x ∷ xs) ≡ cond (p x) 1 0 + count_by p xs
 count_cons p x xs = sum_by-cons (λ y. cond (p y) 1 0) x xs
@@ -69,14 +66,12 @@ once_step : {A : Type 0} (p : A → Bool) (x : A) (xs : List A) (k : ℕ) (d : A
 once_step p x xs k d true is once some more = absurd (omega (arith, once, some, counted_first p x xs is))
 once_step p x xs k d false is once some more = more (omega (arith, once, passed_first p x xs is))
 
--- where no more than one passes, that one is found
+-- where at most one passes, that one is found
 pub found_once : {A : Type 0} (p : A → Bool) (xs : List A) (k : ℕ) (d : A) → count_by p xs ≤ 1 → k < length xs → p (get_or xs k d) ≡ true → find p xs ≡ Some (get_or xs k d)
 found_once p [] k d once below passes = absurd (omega (arith, below))
 found_once p (x ∷ xs) zero d once below passes = rw passes refl
 found_once p (x ∷ xs) (suc k) d once below passes =
     once_step p x xs k d (p x) refl once (one_at p xs k d (omega (arith, below)) passes) (λ one. found_once p xs k d one (omega (arith, below)) passes)
-
--- ---- what comes again
 
 apart_step : {A B : Type 0} (same : B → B → Bool) (f : A → B) (before : List B) (i : ℕ) (x : A) (xs : List A) (b : Bool) → list_any (same (f x)) before ≡ b → cond b (Some i) (first_again same (before ++ f x ∷ []) (i + 1) (map f xs)) ≡ None
     → (first_again same (before ++ f x ∷ []) (i + 1) (map f xs) ≡ None → All (λ y. list_any (same (f y)) (before ++ f x ∷ []) ≡ false) xs) → All (λ y. list_any (same (f y)) before ≡ false) (x ∷ xs)
@@ -85,7 +80,7 @@ apart_step same f before i x xs false is e more =
     All-cons (λ y. list_any (same (f y)) before ≡ false) x xs is
     (All-weaker (λ y. list_any (same (f y)) (before ++ f x ∷ []) ≡ false) (λ y. list_any (same (f y)) before ≡ false) (λ y h. (or_none _ _ (sym (any_push (same (f y)) before (f x)) ∙ h)).0) xs (more e))
 
--- where none comes again, none is like one of those before
+-- where none comes again, none is like one of `before`
 pub apart : {A B : Type 0} (same : B → B → Bool) (f : A → B) (before : List B) (i : ℕ) (xs : List A) → first_again same before i (map f xs) ≡ None → All (λ x. list_any (same (f x)) before ≡ false) xs
 apart same f before i [] e = All-nil (λ x. list_any (same (f x)) before ≡ false)
 apart same f before i (x ∷ xs) e = apart_step same f before i x xs (list_any (same (f x)) before) refl e (apart same f (before ++ f x ∷ []) (i + 1) xs)

@@ -35,8 +35,6 @@ pub position_is : {A : Type 0} (p : A → Bool) (xs : List A) → position p xs 
 position_is p [] = refl
 position_is p (x ∷ xs) = position_at p (p x) x xs refl (position_is p xs)
 
--- ---- nowhere
-
 none_step : {A : Type 0} (p : A → Bool) (x : A) (xs : List A) (b : Bool) → p x ≡ b → cond b (Some 0) (option_map suc (first_at p xs)) ≡ None → (first_at p xs ≡ None → All (λ y. p y ≡ false) xs) → All (λ y. p y ≡ false) (x ∷ xs)
 none_step p x xs true is e more = absurd cc
 none_step p x xs false is e more = All-cons (λ y. p y ≡ false) x xs is (more (unmapped (first_at p xs) e))
@@ -52,9 +50,6 @@ nowhere p (x ∷ xs) e = none_step p x xs (p x) refl e (nowhere p xs)
 pub position_none : {A : Type 0} (p : A → Bool) (xs : List A) → position p xs ≡ None → All (λ x. p x ≡ false) xs
 position_none p xs e = nowhere p xs (sym (position_is p xs) ∙ e)
 
--- ---- somewhere
-
--- what is found is one of them
 found_step : {A : Type 0} (P : A → Type 0) (x y : A) (b : Bool) (o : Option A) → cond b (Some x) o ≡ Some y → P x → (o ≡ Some y → P y) → P y
 found_step P x y true o e here more = let same : x ≡ y = cc in rw (← same) here
 found_step P x y false o e here more = more e
@@ -63,7 +58,6 @@ pub found : {A : Type 0} (P : A → Type 0) (p : A → Bool) (xs : List A) (y : 
 found P p [] y e each = absurd cc
 found P p (x ∷ xs) y e each = found_step P x y (p x) (find p xs) e (All-head P x xs each) (λ h. found P p xs y h (All-tail P x xs each))
 
--- a place is below the length
 below_step : {A : Type 0} (xs : List A) (b : Bool) (o : Option ℕ) → IfSome o (λ i. i < length xs) → IfSome (cond b (Some 0) (option_map suc o)) (λ i. i < suc (length xs))
 below_step xs true o h = omega arith
 below_step xs false None h = tt
@@ -76,7 +70,6 @@ below_at p (x ∷ xs) = below_step xs (p x) (first_at p xs) (below_at p xs)
 pub position_below : {A : Type 0} (p : A → Bool) (xs : List A) → IfSome (position p xs) (λ i. i < length xs)
 position_below p xs = rw (position_is p xs) (below_at p xs)
 
--- where one passes there is a first one
 some_step : (b c : Bool) (o : Option ℕ) → (b || c) ≡ true → (c ≡ true → IsSome o) → IsSome (cond b (Some 0) (option_map suc o))
 some_step true c o e more = refl
 some_step false c None e more = let n = more e in absurd cc

@@ -20,7 +20,6 @@ named_at f [] i x within is = absurd (omega arith)
 named_at f (y ∷ ys) zero x within is = ap f (sym is)
 named_at f (y ∷ ys) (suc i) x within is = named_at f ys i x (omega arith) is
 
--- the name at the place of the first that comes a second time
 pub repeated_at : {A : Type 0} (ms : List (Bor (List ℕ) × Value A)) (i : ℕ) (m : Bor (List ℕ) × Value A) → i < length ms → m ≡ get_or ms i m → Some i ≡ first_twice bytes_eq (map (λ m. m.0.now) ms)
     → Some m.0.now ≡ first_repeated (keys (members_view ms))
 repeated_at ms i m within is found =

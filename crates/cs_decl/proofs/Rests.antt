@@ -10,15 +10,12 @@ use Rattle.cs_crontab.specs.Crontab.{Table as Crontab, CommandLine, without}
 use Rattle.cs_decl.specs.declared.entries.Entries.{Entries}
 use Rattle.cs_decl.specs.Join.{is_left_out, rest, lines_left_out}
 
--- as many as pass are at most as many as there are
 pub count_within : {X : Type 0} (p : X → Bool) (xs : List X) → count_by p xs ≤ length xs
 count_within p xs = count_by-le-length p xs
 
 kept_same : {X : Type 0} (p q : X → Bool) (xs : List X) → All (λ x. p x ≡ q x) xs → filter p xs ≡ filter q xs
 kept_same p q [] each = refl
 kept_same p q (x ∷ xs) each = rw (All-head (λ y. p y ≡ q y) x xs each, kept_same p q xs (All-tail (λ y. p y ≡ q y) x xs each)) refl
-
--- ---- numbers that rise
 
 pub first_is_least : {X : Type 0} (R : X → X → Type 0) (x : X) (xs : List X) → AllPairs R (x ∷ xs) → All (R x) xs
 first_is_least R x xs pairs = λ k d low. pairs zero (suc k) d (omega arith) (omega (arith, low))
@@ -44,7 +41,7 @@ module _ (q : CommandLine → Bool) where
   later_step line other lines true below = rw (ne_eqb line.number other.number (λ same. absurd (omega (arith, below, same)))) refl
   later_step line other lines false below = refl
 
-  -- the number of a line is among those of the lines that pass exactly if it passes
+  -- a line's number is among those of the lines that pass exactly if the line passes
   each_number : (lines : List CommandLine) → AllPairs (λ x y. x.number < y.number) lines → All (λ line. list_any (λ n. eqb n line.number) (numbers_of lines) ≡ q line) lines
   each_number [] rising = All-nil (λ line. list_any (λ n. eqb n line.number) (numbers_of []) ≡ q line)
   each_number (line ∷ lines) rising =

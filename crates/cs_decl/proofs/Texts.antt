@@ -47,8 +47,6 @@ pub not_false : (a b : Bool) → a ≡ not b → a ≡ false → b ≡ true
 not_false a true e t = refl
 not_false a false e t = cc
 
--- ---- a set of names
-
 pub any_push : {X : Type 0} (p : X → Bool) (xs : List X) (y : X) → list_any p (xs ++ y ∷ []) ≡ (list_any p xs || p y)
 any_push p [] y = or_false (p y)
   where
@@ -61,7 +59,6 @@ any_push p (x ∷ xs) y = rw (any_push p xs y) (or_assoc (p x) (list_any p xs) (
     or_assoc true b c = refl
     or_assoc false b c = refl
 
--- a name that is in the set already, or is added
 pub any_insert : (name : List ℕ) (ks : List (Bor (List ℕ))) (v : Bor (List ℕ)) → list_any (λ k. bytes_eq name k.now) (insert_key (λ x y. bytes_eq x.now y.now) ks v) ≡ (list_any (λ k. bytes_eq name k.now) ks || bytes_eq name v.now)
 any_insert name ks v = by_cases (list_any (λ k. bytes_eq v.now k.now) ks) refl
   where
@@ -77,7 +74,6 @@ any_insert name ks v = by_cases (list_any (λ k. bytes_eq v.now k.now) ks) refl
     by_cases true found = here (bytes_eq name v.now) refl found
     by_cases false missing = any_push (λ k. bytes_eq name k.now) ks v
 
--- one group more
 pub any_more : {X : Type 0} (f : X → List ℕ) (name : List ℕ) (xs : List X) (i : ℕ) (x : X) → i < length xs → x ≡ get_or xs i x
     → list_any (λ y. bytes_eq name (f y)) (take (i + 1) xs) ≡ (list_any (λ y. bytes_eq name (f y)) (take i xs) || bytes_eq name (f x))
 any_more f name xs i x within is = rw (take_more xs i x within, ← is) (any_push (λ y. bytes_eq name (f y)) (take i xs) x)
@@ -86,7 +82,6 @@ prefix_same : {X : Type 0} (p q : X → Bool) → ((x : X) → p x ≡ q x) → 
 prefix_same p q same [] = refl
 prefix_same p q same (x ∷ xs) = rw (same x, prefix_same p q same xs) refl
 
--- tests that agree find the same place
 pub position_same : {X : Type 0} (p q : X → Bool) → ((x : X) → p x ≡ q x) → (xs : List X) → position p xs ≡ position q xs
 position_same p q same xs = rw (prefix_same (λ x. not (p x)) (λ x. not (q x)) (λ x. ap not (same x)) xs) refl
 

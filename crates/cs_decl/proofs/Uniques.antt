@@ -38,8 +38,6 @@ mutual
   unique_members no_members e = tt
   unique_members (member k j ms) e = let p = neither (doubled j) (doubled_in_members ms) e in (unique j p.0, unique_members ms p.1)
 
--- ---- and the other way round
-
 differ : (a b : List ℕ) → b ≢ a → bytes_eq a b ≡ false
 differ a b other = by_test (bytes_eq a b) refl
   where
@@ -77,8 +75,6 @@ mutual
   none_in_members : (ms : Members) → MembersHaveUniqueKeys ms → doubled_in_members ms ≡ None
   none_in_members no_members h = refl
   none_in_members (member k j ms) h = rw (none_in j h.0) (none_in_members ms h.1)
-
--- ---- of a text
 
 pub none_missed : (text : List ℕ) (j : Json) → IsUtf8 text → document text ≡ Some j → doubled_member text ≡ None → HasUniqueKeys j
 none_missed text j utf8 is none = unique j (sym (in_text text j utf8 is) ∙ none)

@@ -1,4 +1,4 @@
--- Guesses among the entries of a plan, and lines whose entries tell no schedule.
+-- Guesses among the entries of a plan, and lines whose entries give no schedule.
 use Rattle.std.proofs.Common.{◌≡◌, ◌↔◌, ℕ, ◌<◌, List, Bool, true, false, ◌&&◌, ◌||◌, map, length, get_or, Option, Some, None, Ok, refl, sym, ap, subst, ◌∙◌, arith}
 use Rattle.std.specs.Prelude.{All, Contains, is_none, option_map}
 use Rattle.std.specs.List.{list_any, find, count_by}
@@ -27,11 +27,8 @@ no_count : {A : Type 0} (p : A → Bool) (xs : List A) (k : ℕ) (x : A) → cou
 no_count p xs k x none low false e = e
 no_count p xs k x none low true e = absurd (omega (arith, none, one_at p xs k x low e))
 
--- where the count is zero, none passes
 none_counted : {A : Type 0} (p : A → Bool) (xs : List A) → count_by p xs ≡ 0 → All (λ x. p x ≡ false) xs
 none_counted p xs none = λ k x low. no_count p xs k x none low (p (get_or xs k x)) refl
-
--- ---- lines whose entries tell no schedule
 
 abbrev tells_no_schedule : CommandLine → LineName → Bool
 tells_no_schedule line name = is_named name line && is_untimed_name name

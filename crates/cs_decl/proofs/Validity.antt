@@ -116,7 +116,7 @@ few_groups d v = by_test (nat_lt MAX_GROUPS (length d.groups)) refl (facts d v).
     by_test true long e = absurd cc
     by_test false short e = ltb-false MAX_GROUPS (length d.groups) short
 
--- a group that is declared has a place
+-- a declared group has a place
 placed : (groups : List GroupEntry) (name : Option (List ℕ)) → is_none name ≡ false → is_unlisted groups name ≡ false → IsSome (group_place groups name)
 placed groups None some listed = absurd cc
 placed groups (Some n) some listed = any_position (λ g. bytes_eq n g.name) groups (yes _ listed)

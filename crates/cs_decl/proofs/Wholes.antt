@@ -112,7 +112,7 @@ module _ (d : Entries) where
       plain_anacron None = default_plain k d.default
       plain_anacron (Some e) = refl
 
--- each line has its job
+-- the places of jobs are those of the lines
 pub plan_places : (c : Crontab) (left_out : List ℕ) (untimed : Option ℕ) (a : Anacrontab) (d : Entries) → map (λ j. j.place) (plan_of c left_out untimed a d).jobs ≡ places_of c.lines ++ places_of a.lines
 unfolding plan_of
 plan_places c left_out untimed a d =

@@ -7,16 +7,15 @@ use Rattle.json.specs.Json.{Items, no_items, item, Members, no_members, member}
 use Rattle.json.specs.Strict.{keys}
 use Rattle.cs_decl.specs.Faults.{first_twice}
 
--- the first of these names that one before it is
+-- the first name that an earlier one repeats
 abbrev pub first_repeated : List (List ℕ) → Option (List ℕ)
 first_repeated names = option_map (λ i. slice_index_or names i []) (first_twice bytes_eq names)
 
--- the first that there is
 abbrev pub or_else : Option (List ℕ) → Option (List ℕ) → Option (List ℕ)
 or_else (Some name) other = Some name
 or_else None other = other
 
--- of an object its own names come before those in its values, and values come in their order
+-- an object's own names come before those in its values, and values in their order
 abbrev mutual
   pub doubled : Json → Option (List ℕ)
   doubled null = None
@@ -34,7 +33,6 @@ abbrev mutual
   doubled_in_members no_members = None
   doubled_in_members (member k j ms) = or_else (doubled j) (doubled_in_members ms)
 
--- the first member that stands twice in one object of the text
 unfoldable pub doubled_member : List ℕ → Option (List ℕ)
 doubled_member text =
     if is_utf8 text then option_and_then doubled (document text) else None

@@ -1,4 +1,4 @@
--- What is wrong with declarations: a table of faults, in the order in which they are answered.
+-- What is wrong with declarations: a table of faults, in the order of the answers.
 use Rattle.std.specs.Prelude.{List, [], ◌∷◌, ◌++◌, ℕ, ◌+◌, ℤ, pos, Option, None, Some, option_map, if◌then◌else◌, Bool, false, not, ◌&&◌, bytes_eq, map, length, nat_lt, unsigned_abs, int_lt, int_le, is_none, is_some, sum_by, position, ◌||◌, ◌==◌}
 use Rattle.std.specs.Ordering.{int_eq}
 use Rattle.std.specs.List.{list_any}
@@ -17,27 +17,26 @@ use Rattle.cs_plan.specs.Answers.{Fault}
 
 -- ---- tests of one item
 
--- a whole number from one to another
 abbrev pub is_within : ℕ → ℕ → ℤ → Bool
 is_within low high z = int_le (pos low) z && int_le z (pos high)
 
--- the first that is among those before it, which are `before` and i of the list
+-- the first that is among those before it: `before`, and the items of the list up to it
 abbrev pub first_again : {A : Type 0} → (A → A → Bool) → List A → ℕ → List A → Option ℕ
 first_again same before i [] = None
 first_again same before i (x ∷ xs) =
     if list_any (same x) before then Some i else first_again same (before ++ x ∷ []) (i + 1) xs
 
--- the place of the first that comes a second time
+-- the place of the first that an earlier one is like
 abbrev pub first_twice : {A : Type 0} → (A → A → Bool) → List A → Option ℕ
 first_twice same xs = first_again same [] 0 xs
 
--- the same number, and no two that are absent
+-- two numbers, equal; what is absent is like nothing
 abbrev pub same_number : Option ℤ → Option ℤ → Bool
 same_number (Some a) (Some b) = int_eq a b
 same_number (Some a) None = false
 same_number None b = false
 
--- an offset of a day or more, to either side
+-- an offset of a day or more, either way
 abbrev pub is_bad_offset : ℤ → Bool
 is_bad_offset offset = nat_lt MAX_OFFSET (unsigned_abs offset)
 
@@ -47,7 +46,6 @@ is_bad_max max = not (is_within 1 MAX_MINUTES max)
 abbrev pub is_bad_weight : ℤ → Bool
 is_bad_weight weight = not (is_within 1 MAX_WEIGHT weight)
 
--- of a default, where there is one
 abbrev pub is_bad_default : (DefaultEntry → Bool) → Option DefaultEntry → Bool
 is_bad_default bad None = false
 is_bad_default bad (Some e) = bad e
@@ -56,30 +54,29 @@ is_bad_default bad (Some e) = bad e
 abbrev pub needs_group : CronEntry → Bool
 needs_group e = takes e.mode && is_none e.group
 
--- a group that is none of these
+-- a group that isn't declared
 abbrev pub is_unlisted : List GroupEntry → Option (List ℕ) → Bool
 is_unlisted groups None = false
 is_unlisted groups (Some name) = not (list_any (λ g. bytes_eq name g.name) groups)
 
--- no minutes of one day, the first before the last
+-- not two minutes of one day in order, the second up to 1,440
 abbrev pub are_bad_hours : ℤ × ℤ → Bool
 are_bad_hours h = not (int_le (pos 0) h.0 && int_lt h.0 h.1 && int_le h.1 (pos MINUTES_OF_DAY))
 
--- the longest times of parts, one after the other
+-- parts run one after the other: their longest times, added up
 abbrev pub minutes_of : List PartEntry → ℕ
 minutes_of parts = sum_by (λ p. unsigned_abs p.max) parts
 
--- two of one name, a longest time that is none, or all together above the entry's
+-- two of one name, one with a longest time out of range, or together more than the entry's
 abbrev pub are_bad : ℤ → List PartEntry → Bool
 are_bad max parts = is_some (first_twice bytes_eq (map (λ p. p.name) parts))
     || list_any (λ p. is_bad_max p.max) parts
     || not (int_le (pos (minutes_of parts)) max)
 
--- an entry that has parts, and bad ones
 abbrev pub has_bad_parts : CronEntry → Bool
 has_bad_parts e = not (length e.parts == 0) && are_bad e.max e.parts
 
--- a minute of no day
+-- not a minute of the day
 abbrev pub is_bad_pass : Option ℤ → Bool
 is_bad_pass None = false
 is_bad_pass (Some minute) = not (int_le (pos 0) minute && int_lt minute (pos MINUTES_OF_DAY))
@@ -102,11 +99,10 @@ at_anacron fault i = option_map (λ k. (fault, Some (Anacron k))) i
 abbrev pub at_left_out : DeclFault → Option ℕ → Option Fault
 at_left_out fault i = option_map (λ k. (fault, Some (LeftOut k))) i
 
--- a fault that has no place
+-- a fault without a place
 abbrev pub where_true : DeclFault → Bool → Option Fault
 where_true fault b = if b then Some (fault, None) else None
 
--- what is declared twice
 unfoldable pub twice_declared : Entries → List (Option Fault)
 twice_declared d =
     at_group faults.TwiceDeclared (first_twice bytes_eq (map (λ g. g.name) d.groups))
@@ -114,7 +110,7 @@ twice_declared d =
     ∷ at_anacron faults.TwiceDeclared (first_twice bytes_eq (map (λ e. e.identifier) d.anacron))
     ∷ []
 
--- numbers of jobs, and the capacity, that are out of their ranges
+-- numbers out of their ranges
 unfoldable pub bad_numbers : Entries → List (Option Fault)
 bad_numbers d =
     at_cron faults.BadMax (position (λ e. is_bad_max e.max) d.cron)
@@ -126,7 +122,6 @@ bad_numbers d =
     ∷ where_true faults.BadCapacity (not (is_within 1 MAX_CAPACITY d.capacity))
     ∷ []
 
--- groups that are missing or too many
 unfoldable pub bad_groups : Entries → List (Option Fault)
 bad_groups d =
     at_cron faults.ModeNeedsGroup (position needs_group d.cron)
@@ -135,7 +130,6 @@ bad_groups d =
     ∷ at_group faults.TooManyGroups (one_too_many d.groups)
     ∷ []
 
--- hours, modes of anacron jobs, and the pass minute
 unfoldable pub bad_times : Entries → List (Option Fault)
 bad_times d =
     where_true faults.BadHours (are_bad_hours d.hours)
@@ -143,17 +137,15 @@ bad_times d =
     ∷ where_true faults.BadPassMinute (is_bad_pass d.pass)
     ∷ []
 
--- parts that don't make up what they are parts of
 abbrev pub bad_parts : Entries → List (Option Fault)
 bad_parts d = at_cron faults.BadParts (position has_bad_parts d.cron) ∷ []
 
--- all of them: by number, and of one number in the order groups, cron, anacron, default
+-- all of them: by number, and for one number in the order groups, cron, anacron, default
 abbrev pub faults_of : Entries → List (Option Fault)
 faults_of d = where_true faults.BadShape (is_bad_offset d.offset)
     ∷ (twice_declared d
     ++ (bad_numbers d ++ (bad_groups d ++ (bad_times d ++ bad_parts d))))
 
--- the first fault that there is
 abbrev pub first_fault : List (Option Fault) → Option Fault
 first_fault [] = None
 first_fault (Some f ∷ fs) = Some f

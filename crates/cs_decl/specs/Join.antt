@@ -26,8 +26,8 @@ use Rattle.cs_plan.specs.Reboot.{is_reboot, at_line, reboot_fault}
 
 -- ---- names and lines
 
--- a number names the line that has it, and a command alone each line that has that command, and
--- the schedule that is told beside it
+-- a number names the line that has it; a command alone each line that has that command and, if one
+-- is given, that schedule
 abbrev pub names_line : Option ℤ → Option (List ℕ) → Option When → CommandLine → Bool
 names_line (Some number) told when line = int_eq number (pos line.number)
 names_line None (Some told) when line = bytes_eq told line.command && is_told_when when line.when
@@ -36,34 +36,32 @@ names_line None None when line = false
 abbrev pub is_named : LineName → CommandLine → Bool
 is_named name line = names_line name.number name.command name.when line
 
--- it names no line
 abbrev pub has_no_line : List CommandLine → LineName → Bool
 has_no_line lines name = not (list_any (is_named name) lines)
 
--- a command is told, and it isn't these bytes
+-- a command is given, and it isn't this one
 abbrev pub is_unlike : List ℕ → Option (List ℕ) → Bool
 is_unlike command None = false
 is_unlike command (Some told) = not (bytes_eq told command)
 
--- its line has another command than it tells
+-- its line has another command than it gives
 abbrev pub has_other_command : List CommandLine → LineName → Bool
 has_other_command lines name =
     list_any (λ line. is_named name line && is_unlike line.command name.command) lines
 
--- its line has another schedule than it tells
+-- its line has another schedule than it gives
 abbrev pub has_other_schedule : List CommandLine → LineName → Bool
 has_other_schedule lines name =
     list_any (λ line. is_named name line && not (is_told_when name.when line.when)) lines
 
--- it names several lines
 unfoldable pub is_ambiguous : List CommandLine → LineName → Bool
 is_ambiguous lines name = nat_lt 1 (count_by (is_named name) lines)
 
--- the number of the line that it names
+-- the number of the first line that it names
 abbrev pub number_of : List CommandLine → LineName → Option ℤ
 number_of lines name = option_map (λ line. pos line.number) (find (is_named name) lines)
 
--- the numbers of the lines that entries of `cron` name, and those of `left_out`, by entry
+-- the numbers of the lines that entries name, in order of the entries
 abbrev pub cron_numbers : List CommandLine → Entries → List (Option ℤ)
 cron_numbers lines d = map (λ e. number_of lines e.name) d.cron
 
@@ -78,29 +76,27 @@ is_left_out d line = list_any (λ name. is_named name line) d.left_out
 abbrev pub has_entry : Entries → CommandLine → Bool
 has_entry d line = list_any (λ e. is_named e.name line) d.cron
 
--- the entry declares the job of that identifier
 abbrev pub is_of_job : List ℕ → AnacronEntry → Bool
 is_of_job identifier e = bytes_eq e.identifier identifier
 
 abbrev pub has_job_entry : Entries → JobLine → Bool
 has_job_entry d line = list_any (is_of_job line.identifier) d.anacron
 
--- the entry's identifier has no job
+-- no job has the entry's identifier
 abbrev pub has_no_job : List JobLine → AnacronEntry → Bool
 has_no_job lines e = not (list_any (λ line. is_of_job line.identifier e) lines)
 
--- the table without the lines that are left out
 abbrev pub rest : Entries → Crontab → Crontab
 rest d table = record {
   settings = table.settings;
   lines = filter (λ line. not (is_left_out d line)) table.lines;
 }
 
--- the numbers of the lines that are left out, in order of line
+-- in order of line
 abbrev pub lines_left_out : Entries → Crontab → List ℕ
 lines_left_out d table = map (λ line. line.number) (filter (is_left_out d) table.lines)
 
--- the command is no `@reboot`, has no entry, and there is no default
+-- without an entry or a default; an `@reboot` has a fault of its own
 abbrev pub is_undeclared : Entries → CommandLine → Bool
 is_undeclared d line = is_none d.default && (not (is_reboot line.when) && not (has_entry d line))
 
@@ -112,7 +108,7 @@ is_undeclared_job d line = is_none d.default && not (has_job_entry d line)
 abbrev pub at_job : DeclFault → Option JobLine → Option Fault
 at_job fault line = option_map (λ l. (fault, Some (Job l.identifier))) line
 
--- entries that name no line and no job
+-- entries that name no line or no job
 unfoldable pub lineless : List CommandLine → List JobLine → Entries → List (Option Fault)
 lineless lines jobs d =
     at_cron faults.NoSuchLine (position (λ e. has_no_line lines e.name) d.cron)
@@ -120,22 +116,19 @@ lineless lines jobs d =
     ∷ at_left_out faults.NoSuchLine (position (has_no_line lines) d.left_out)
     ∷ []
 
--- entries with another command than their line
 unfoldable pub misquoted : List CommandLine → Entries → List (Option Fault)
 misquoted lines d =
     at_cron faults.OtherCommand (position (λ e. has_other_command lines e.name) d.cron)
     ∷ at_left_out faults.OtherCommand (position (has_other_command lines) d.left_out)
     ∷ []
 
--- entries that name several lines
 unfoldable pub ambiguous : List CommandLine → Entries → List (Option Fault)
 ambiguous lines d =
     at_cron faults.AmbiguousCommand (position (λ e. is_ambiguous lines e.name) d.cron)
     ∷ at_left_out faults.AmbiguousCommand (position (is_ambiguous lines) d.left_out)
     ∷ []
 
--- entries of `cron` whose line an earlier one has, and of `left_out` whose line has an entry of
--- `cron` or an earlier one of its own
+-- a second entry of `cron` for a line, or one of `left_out` for a line that has an entry already
 unfoldable pub named_twice : List CommandLine → Entries → List (Option Fault)
 named_twice lines d =
     at_cron faults.TwiceDeclared (first_twice same_number (cron_numbers lines d))
@@ -143,7 +136,7 @@ named_twice lines d =
     (first_again same_number (cron_numbers lines d) 0 (left_out_numbers lines d))
     ∷ []
 
--- jobs without an entry and without a default, and `@reboot` lines
+-- jobs without an entry or a default, and `@reboot` lines
 unfoldable pub undeclared : List CommandLine → List JobLine → Entries → List (Option Fault)
 undeclared lines jobs d =
     at_line faults.Undeclared (find (is_undeclared d) lines)
@@ -151,19 +144,17 @@ undeclared lines jobs d =
     ∷ reboot_fault lines
     ∷ []
 
--- entries with another schedule than their line
 unfoldable pub mistimed : List CommandLine → Entries → List (Option Fault)
 mistimed lines d =
     at_cron faults.OtherSchedule (position (λ e. has_other_schedule lines e.name) d.cron)
     ∷ at_left_out faults.OtherSchedule (position (has_other_schedule lines) d.left_out)
     ∷ []
 
--- what is wrong with what entries name
 abbrev pub naming_faults : List CommandLine → List JobLine → Entries → List (Option Fault)
 naming_faults lines jobs d =
     lineless lines jobs d ++ (misquoted lines d ++ (ambiguous lines d ++ named_twice lines d))
 
--- all of them: entries name lines of the whole table, and jobs are those of the rest
+-- entries name lines of the whole table; jobs are those of the lines that aren't left out
 abbrev pub join_faults : Crontab → Anacrontab → Entries → List (Option Fault)
 join_faults crontab anacrontab d =
     naming_faults crontab.lines anacrontab.lines d
@@ -171,11 +162,11 @@ join_faults crontab anacrontab d =
 
 -- ---- the plan
 
--- the place of the group of that name
+-- the place of the group with that name
 abbrev pub group_place : List GroupEntry → Option (List ℕ) → Option ℕ
 group_place groups name = option_and_then (λ n. position (λ g. bytes_eq n g.name) groups) name
 
--- what is declared of a job without an entry: the default; without one it is in no plan
+-- a job without an entry has the default; where there is none, no plan has such a job
 abbrev pub default_terms : ℕ → Option DefaultEntry → DeclaredJob
 default_terms place None =
     record { place = place; max = 1; weight = 1; group = None; mode = Plain }
@@ -187,7 +178,6 @@ default_terms place (Some e) = record {
   mode = Plain;
 }
 
--- what is declared of the job at a place, with its entry if it has one
 abbrev pub cron_terms : Entries → ℕ → Option CronEntry → DeclaredJob
 cron_terms d place None = default_terms place d.default
 cron_terms d place (Some e) = record {
@@ -215,7 +205,7 @@ cron_job d place line = cron_terms d place (find (λ e. is_named e.name line) d.
 abbrev pub anacron_job : Entries → ℕ → JobLine → DeclaredJob
 anacron_job d place line = anacron_terms d place (find (is_of_job line.identifier) d.anacron)
 
--- the jobs of lines, of which the first has this place
+-- the jobs of lines, the first of which has this place
 abbrev pub jobs_from : {L : Type 0} → (ℕ → L → DeclaredJob) → ℕ → List L → List DeclaredJob
 jobs_from job place [] = []
 jobs_from job place (line ∷ lines) = job place line ∷ jobs_from job (place + 1) lines
@@ -226,7 +216,6 @@ declared_group g = record { name = g.name; exclusive = g.exclusive }
 abbrev pub declared_hours : ℤ × ℤ → CatchUpHours
 declared_hours h = record { from = unsigned_abs h.0; to = unsigned_abs h.1 }
 
--- how many of the jobs have no entry
 abbrev pub defaulted : Entries → List CommandLine → List JobLine → ℕ
 defaulted d lines jobs =
     count_by (λ line. not (has_entry d line)) lines
@@ -236,22 +225,21 @@ defaulted d lines jobs =
 abbrev pub guessed : Entries → ℕ
 guessed d = count_by (λ e. e.guess) d.cron + count_by (λ e. e.guess) d.anacron
 
--- it tells a command without a schedule
+-- it gives a command without a schedule
 abbrev pub is_untimed_name : LineName → Bool
 is_untimed_name name = is_some name.command && is_none name.when
 
--- another line has the command of this one too, and the entry of this one tells no schedule
+-- its entry gives no schedule, and another line has the same command
 abbrev pub is_untimed : Entries → List CommandLine → CommandLine → Bool
 is_untimed d lines line =
     (list_any (λ e. is_named e.name line && is_untimed_name e.name) d.cron
     || list_any (λ name. is_named name line && is_untimed_name name) d.left_out)
     && nat_lt 1 (count_by (λ other. bytes_eq other.command line.command) lines)
 
--- the number of the first such line
 abbrev pub untimed : Entries → List CommandLine → Option ℕ
 untimed d lines = option_map (λ line. line.number) (find (is_untimed d lines) lines)
 
--- the plan of the rest of a crontab, and the numbers of the lines that are left out of it
+-- the plan of a crontab without the lines that are left out, whose numbers are given
 unfoldable pub plan_of : Crontab → List ℕ → Option ℕ → Anacrontab → Entries → Declared
 plan_of crontab left_out untimed anacrontab d = record {
   crontab = crontab;
@@ -269,7 +257,6 @@ plan_of crontab left_out untimed anacrontab d = record {
   doubled = d.doubled;
 }
 
--- the plan of the tables and the declarations, or their first fault
 unfoldable pub joined : Crontab → Anacrontab → Entries → Result Declared Fault
 joined crontab anacrontab d =
     unless (plan_of (rest d crontab) (lines_left_out d crontab) (untimed d crontab.lines) anacrontab

@@ -1,4 +1,4 @@
--- Which fault of declarations is returned: the smallest number, and the first place of that.
+-- Which fault of declarations is returned: the smallest number, and the first place with it.
 use Rattle.std.specs.Prelude.{◌≡◌, List, [], ◌∷◌, ◌++◌, ℕ, zero, suc, ◌<◌, ◌≤◌, ◌⊎◌, Bool, true, false, not, ◌&&◌, ◌==◌, Option, Some, None, map, length, nat_lt, bytes_eq, if◌then◌else◌}
 use Rattle.std.specs.List.{list_any}
 use Rattle.cs_plan.specs.declared.limits.TheConstants.{MAX_CAPACITY, MAX_GROUPS}
@@ -9,19 +9,19 @@ use Rattle.cs_decl.specs.declared.entries.Entries.{Entries}
 use Rattle.cs_decl.specs.Faults.{is_within, same_number, is_bad_offset, is_bad_max, is_bad_weight, is_bad_default, needs_group, is_unlisted, are_bad_hours, is_bad_pass, has_bad_parts}
 use Rattle.cs_plan.specs.Answers.{Fault}
 
--- the entry at a place is there, and passes
+-- the item at a place is there, and passes
 abbrev pub passes_at : {A : Type 0} → (A → Bool) → List A → ℕ → Bool
 passes_at p [] i = false
 passes_at p (x ∷ xs) zero = p x
 passes_at p (x ∷ xs) (suc i) = passes_at p xs i
 
--- the entry at a place is there, and is among those before it or in `before`
+-- the item at a place is there, and is like one before it or one of `before`
 abbrev pub comes_again : {A : Type 0} → (A → A → Bool) → List A → List A → ℕ → Bool
 comes_again same before [] i = false
 comes_again same before (x ∷ xs) zero = list_any (same x) before
 comes_again same before (x ∷ xs) (suc i) = comes_again same (before ++ x ∷ []) xs i
 
--- the order of the answers: by number, and of one number groups, cron, anacron, default
+-- the order of the answers: by number, and for one number groups, cron, anacron, default
 abbrev pub row : Fault → ℕ
 row (faults.BadShape, None) = 0
 row (faults.TwiceDeclared, Some (Group i)) = 1
@@ -44,7 +44,6 @@ row (faults.BadPassMinute, None) = 17
 row (faults.BadParts, Some (Cron i)) = 18
 row _ = 19
 
--- the place in its list
 abbrev pub place_index : Option Place → ℕ
 place_index (Some (Group i)) = i
 place_index (Some (Cron i)) = i
@@ -54,7 +53,7 @@ place_index _ = 0
 abbrev pub index : Fault → ℕ
 index f = place_index f.1
 
--- the fault of a row is at a place
+-- the row's fault stands at a place
 abbrev pub stands_at : Entries → ℕ → ℕ → Bool
 stands_at d k i =
     if k == 0 then is_bad_offset d.offset
@@ -78,7 +77,6 @@ stands_at d k i =
     else if k == 18 then passes_at has_bad_parts d.cron i
     else false
 
--- the fault exists
 abbrev pub stands : Entries → Fault → Bool
 stands d f = stands_at d (row f) (index f)
 
@@ -86,6 +84,6 @@ stands d f = stands_at d (row f) (index f)
 abbrev pub IsNoLater : Fault → Fault → Type 0
 IsNoLater f g = (row f < row g) ⊎ ((row f ≡ row g) × (index f ≤ index g))
 
--- f exists, and no fault comes before it
+-- f stands, and no fault comes before it
 abbrev pub IsFirst : Entries → Fault → Type 0
 IsFirst d f = (stands d f ≡ true) × ((g : Fault) → stands d g ≡ true → IsNoLater f g)

@@ -11,21 +11,21 @@ use Rattle.cs_plan.specs.Job.{DeclaredJob}
 use Rattle.cs_decl.specs.Join.{is_named, names_line, group_place}
 use Rattle.cs_decl.specs.When.{is_told_when}
 
--- the names of lines in all entries
+-- the line names of all entries
 abbrev pub names_of : Entries → List LineName
 names_of d = map (λ e. e.name) d.cron ++ d.left_out
 
--- the name tells no command, or that of each line that it names; and so of the schedule
+-- if it names the line, it gives that line's command or none, and its schedule or none
 abbrev pub TellsOf : LineName → CommandLine → Type 0
 TellsOf name line = is_named name line ≡ true
     → IfSome name.command (λ told. told ≡ line.command)
     × (is_told_when name.when line.when ≡ true)
 
--- by its command, and the schedule that it tells, it names the line
+-- it would name the line by its command and schedule, whatever its number
 abbrev pub is_told : LineName → CommandLine → Bool
 is_told name = names_line None name.command name.when
 
--- an entry names the line, tells a command and no schedule, and other lines have the line's command
+-- an entry names the line, gives a command and no schedule, and other lines have the same command
 abbrev pub IsUntimed : Entries → List CommandLine → CommandLine → Type 0
 IsUntimed d lines line = (name : LineName) × Contains (names_of d) name
     × (is_named name line ≡ true) × IsSome name.command × (name.when ≡ None)
@@ -35,15 +35,13 @@ IsUntimed d lines line = (name : LineName) × Contains (names_of d) name
 abbrev pub IsLeftOut : Entries → CommandLine → Type 0
 IsLeftOut d line = (name : LineName) × Contains d.left_out name × (is_named name line ≡ true)
 
--- none does
 abbrev pub IsKept : Entries → CommandLine → Type 0
 IsKept d line = All (λ name. is_named name line ≡ false) d.left_out
 
--- no entry of `cron` names the line
 abbrev pub HasNoEntry : Entries → CommandLine → Type 0
 HasNoEntry d line = All (λ e. is_named e.name line ≡ false) d.cron
 
--- Of the lines, in order, each that is left out has its number among these, and the others are kept.
+-- of the lines, in order, each is left out and has its number listed, or is kept
 abbrev pub AreParted : Entries → List CommandLine → List CommandLine → List ℕ → Type 0
 AreParted d [] kept numbers = (kept ≡ []) × (numbers ≡ [])
 AreParted d (line ∷ lines) kept numbers =
@@ -58,12 +56,11 @@ HasEntry d line job = (e : CronEntry) × Contains d.cron e × (is_named e.name l
     × (job.max ≡ unsigned_abs e.max) × (job.weight ≡ unsigned_abs e.weight)
     × (job.group ≡ group_place d.groups e.group) × (job.mode ≡ e.mode)
 
--- the default declares the job
 abbrev pub HasDefault : Entries → DeclaredJob → Type 0
 HasDefault d job = (e : DefaultEntry) × (d.default ≡ Some e)
     × (job.max ≡ unsigned_abs e.max) × (job.weight ≡ unsigned_abs e.weight)
     × (job.group ≡ None) × (job.mode ≡ Plain)
 
--- The job of a line is that of an entry, or else has the default.
+-- the job of a line is that of an entry; without one it has the default
 abbrev pub IsDeclared : Entries → CommandLine → DeclaredJob → Type 0
 IsDeclared d line job = HasEntry d line job ⊎ (HasNoEntry d line × HasDefault d job)

@@ -17,13 +17,11 @@ use Rattle.cs_decl.specs.Faults.{faults_of, first_fault}
 use Rattle.cs_plan.specs.Answers.{Fault}
 use Rattle.cs_plan.specs.Answers.{◌>>=◌, unless}
 
--- out of memory, or the fault of JSON among those of declarations
 abbrev pub error_of : Misread → DeclError
 error_of Memory = OutOfMemory
 error_of (Misreading json.NotJson) = At faults.NotJson None
 error_of (Misreading json.BadShape) = At faults.BadShape None
 
--- the faults of JSON among those of declarations
 abbrev pub json_fault : JsonFault → DeclFault
 json_fault json.NotJson = faults.NotJson
 json_fault json.BadShape = faults.BadShape
@@ -32,13 +30,12 @@ abbrev pub with_fault : {A : Type 0} → Result A JsonFault → Result A Fault
 with_fault (Ok x) = Ok x
 with_fault (Err f) = Err (json_fault f, None)
 
--- what the bytes declare: their JSON value has the shape, and the table finds no fault
+-- what bytes declare: a JSON value of the right shape, without a fault of the table
 unfoldable pub declared_by : List ℕ → Result Entries Fault
 declared_by bytes = do
   json ← with_fault (or_fault json.NotJson (json_of bytes))
   d ← with_fault (entries_of json)
   unless (record d { doubled = doubled_member bytes }) (first_fault (faults_of d))
 
--- The table finds no fault.
 abbrev pub IsValid : Entries → Type 0
 IsValid d = first_fault (faults_of d) ≡ None

@@ -18,7 +18,6 @@ use Rattle.cs_decl.specs.declared.reading.Terms.{Terms}
 use Rattle.cs_decl.specs.When.{when_named}
 use Rattle.cs_crontab.specs.declared.table.When.{When}
 
--- how a mode is written
 abbrev pub mode_named : List ℕ → Option Mode
 mode_named s =
     if bytes_eq s (codes "none") then Some Plain
@@ -31,51 +30,42 @@ mode_named s =
 abbrev pub mode_of : Data → Result Mode JsonFault
 mode_of d = or_bad_shape (option_and_then mode_named (as_str d))
 
--- a text that stands for a schedule
 abbrev pub when_of : Data → Result When JsonFault
 when_of d = or_bad_shape (option_and_then when_named (as_str d))
 
--- the members of an entry of `groups`
 unfoldable pub is_group_member : List ℕ → Bool
 is_group_member = is_among (codes "exclusive" ∷ codes "name" ∷ codes "note" ∷ [])
 
--- the members of an entry of `parts`
 unfoldable pub is_part_member : List ℕ → Bool
 is_part_member = is_among (codes "max" ∷ codes "name" ∷ codes "note" ∷ [])
 
--- the members of an entry of `cron`
 unfoldable pub is_cron_member : List ℕ → Bool
 is_cron_member = is_among
     (codes "command" ∷ codes "group" ∷ codes "guess" ∷ codes "line" ∷ codes "max" ∷ codes "mode"
     ∷ codes "note" ∷ codes "parts" ∷ codes "weight" ∷ codes "when" ∷ [])
 
--- the members of an entry of `anacron`
 unfoldable pub is_anacron_member : List ℕ → Bool
 is_anacron_member = is_among
     (codes "group" ∷ codes "guess" ∷ codes "id" ∷ codes "max" ∷ codes "mode" ∷ codes "note"
     ∷ codes "weight" ∷ [])
 
--- the members of `default`
 unfoldable pub is_default_member : List ℕ → Bool
 is_default_member = is_among (codes "max" ∷ codes "note" ∷ codes "weight" ∷ [])
 
--- the members of an entry of `left_out`
 unfoldable pub is_left_out_member : List ℕ → Bool
 is_left_out_member = is_among
     (codes "command" ∷ codes "line" ∷ codes "note" ∷ codes "when" ∷ [])
 
--- the members of declarations
 unfoldable pub is_member : List ℕ → Bool
 is_member = is_among
     (codes "anacron" ∷ codes "capacity" ∷ codes "cron" ∷ codes "default" ∷ codes "groups"
     ∷ codes "hours" ∷ codes "left_out" ∷ codes "note" ∷ codes "offset" ∷ codes "pass" ∷ [])
 
--- a note, where there is one, is a text; nothing is read off it
+-- a note is for people: it has to be a text, and nothing is read from it
 abbrev pub note_of : Data → Result ⊤ JsonFault
 note_of d = member_or_default (λ note. check (is_some (as_str note))) tt (codes "note") d
 
--- a line's number, its command or both, and perhaps its schedule; the command is the bytes of its
--- text
+-- a line's number, its command or both, and perhaps its schedule
 unfoldable pub line_name_of : Data → Result LineName JsonFault
 line_name_of d = do
   number ← member_or_none whole_number (codes "line") d
@@ -84,7 +74,7 @@ line_name_of d = do
   when ← member_or_none when_of (codes "when") d
   Ok (record { number = number; command = command; when = when })
 
--- an entry of `groups`: name and `exclusive` have to be there
+-- name and `exclusive` have to be there
 unfoldable pub group_of : Data → Result GroupEntry JsonFault
 group_of d = do
   o ← object_with is_group_member d
@@ -93,7 +83,7 @@ group_of d = do
   exclusive ← member_as flag (codes "exclusive") d
   Ok (record { name = name; exclusive = exclusive })
 
--- an entry of `parts`: name and longest time have to be there
+-- name and longest time have to be there
 unfoldable pub part_of : Data → Result PartEntry JsonFault
 part_of d = do
   o ← object_with is_part_member d
@@ -102,12 +92,11 @@ part_of d = do
   max ← member_as whole_number (codes "max") d
   Ok (record { name = name; max = max })
 
--- whether the longest time is a draft's guess
+-- nothing is a guess unless it says so
 abbrev pub guess_of : Data → Result Bool JsonFault
 guess_of d = member_or_default flag false (codes "guess") d
 
--- an entry of `cron`: where they are absent, the weight is 1, the mode `none`, parts are none, and
--- nothing is a guess
+-- by default the weight is 1, the mode `none`, and there are no parts
 unfoldable pub cron_of : Data → Result CronEntry JsonFault
 cron_of d = do
   o ← object_with is_cron_member d
@@ -129,7 +118,7 @@ cron_of d = do
     guess = guess;
   })
 
--- an entry of `anacron`: of a mode it is known alone whether it is there
+-- an anacron job may have no mode: only whether there is one is read
 unfoldable pub anacron_of : Data → Result AnacronEntry JsonFault
 anacron_of d = do
   o ← object_with is_anacron_member d
@@ -148,7 +137,7 @@ anacron_of d = do
     guess = guess;
   })
 
--- `default`: the weight is 1 where it is absent
+-- the weight is 1 by default
 unfoldable pub default_of : Data → Result DefaultEntry JsonFault
 default_of d = do
   o ← object_with is_default_member d
@@ -157,14 +146,13 @@ default_of d = do
   weight ← member_or_default whole_number (pos 1) (codes "weight") d
   Ok (record { max = max; weight = weight })
 
--- an entry of `left_out`
 unfoldable pub left_out_of : Data → Result LineName JsonFault
 left_out_of d = do
   o ← object_with is_left_out_member d
   note ← note_of d
   line_name_of d
 
--- what is declared of all jobs together: only the capacity has to be there
+-- only the capacity has to be there; by default the offset is 0, and all hours are catch-up hours
 unfoldable pub terms_of : Data → Result Terms JsonFault
 terms_of d = do
   capacity ← member_as whole_number (codes "capacity") d
@@ -180,7 +168,7 @@ terms_of d = do
     default = default;
   })
 
--- all members; a value keeps the last of those that stand twice in the text
+-- all members; of those that stand twice in the text, the value has the last
 unfoldable pub entries_of : Data → Result Entries JsonFault
 entries_of d = do
   o ← object_with is_member d

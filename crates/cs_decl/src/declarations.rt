@@ -16,9 +16,7 @@ use serde_json::Value;
 use std::alloc::{AllocError, Global};
 use std::marker::Model;
 
-/// What an operator declares: for each job its longest time, weight, group and mode, and those of
-/// jobs without an entry; the lines that are left out; the groups, the capacity, the catch-up hours,
-/// the pass minute and the offset.
+/// Declarations that were read, each number in its range.
 #[derive(Drop)]
 pub struct Declarations {
     entries: Entries,
@@ -37,7 +35,7 @@ impl Model for Declarations {
 }
 
 impl Declarations {
-    /// Returns the entries as they were read, each number in its range.
+    /// Returns the entries, as read.
     pub fn entries(&self) -> &Entries
         ensures value { result.now ≡ self.now }
         ensures valid { IsValid self.now }
@@ -82,9 +80,8 @@ fn entries_in(alloc: Global, value: &Value) -> Result<Entries, DeclError>
     }
 }
 
-/// Reads declarations, or returns their fault with the smallest number: among several with that
-/// number the first of the groups, then of the cron entries, then of the anacron entries, then that
-/// of the default.
+/// Reads declarations, or returns their fault with the smallest number; among several with that
+/// number, that of the groups, then of cron, then of anacron, then of the default.
 ///
 /// [`join`](crate::join) checks that the lines and identifiers exist. Memory may run out.
 #[tactic(auto, unfolding(crate::specs::Meaning::declared_by))]

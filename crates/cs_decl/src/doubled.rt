@@ -1,4 +1,4 @@
-//! The member of a JSON text that stands twice in one object.
+//! Finds a member that stands twice in one object of a JSON text.
 ghost use Rattle.std.specs.Prelude.{◌≡◌, IfOk, option_map};
 ghost use Rattle.json.specs.Strict.{keys};
 ghost use Rattle.json.specs.Value.{value_view, items_view, members_view};
@@ -10,7 +10,6 @@ use cs_civil::Bytes;
 use json::{Error, Scratch, Value};
 use std::alloc::{AllocError, Global};
 
-/// The first name of a member that an earlier one has.
 fn repeated<'a>(
     alloc: Global,
     members: &Vec<(&'a str, Value<'a>)>,
@@ -69,8 +68,7 @@ fn in_members<'a>(
     Ok(None)
 }
 
-/// The first member that stands twice in one object of a JSON text: of an object its own members
-/// come before those of its values. None in a text that isn't JSON.
+/// An object's own members come before those of its values. `None` in a text that isn't JSON.
 #[tactic(auto, unfolding(crate::specs::Doubled::doubled_member))]
 pub(crate) fn doubled_member(alloc: Global, text: &[u8]) -> Result<Option<Bytes>, AllocError>
     ensures { IfOk result (λ found. found ≡ doubled_member text.now) }

@@ -2,22 +2,22 @@ use cs_civil::{Bytes, Sequence};
 use cs_crontab::When;
 use cs_history::Mode;
 
-/// How an entry names a line of the crontab: by its number, by its command, or by both; a schedule
-/// that is told beside them is the line's.
+/// How an entry names a line of the crontab: by its number, its command or both, and perhaps its
+/// schedule.
 #[derive(Drop)]
 pub struct LineName {
-    /// The number of the line, counted from 1 over all lines of the table.
+    /// Counted from 1 over all lines of the table.
     pub number: Option<i128>,
-    /// The command, as the line has it.
+    /// The command, with the line's own bytes.
     pub command: Option<Bytes>,
-    /// When the command starts, as the line has it.
+    /// The line's schedule, if the entry gives one.
     pub when: Option<When>,
 }
 
 /// An entry of `groups`.
 #[derive(Drop)]
 pub struct GroupEntry {
-    /// The name of the group.
+    /// The name that jobs refer to.
     pub name: Bytes,
     /// Whether no two runs of its jobs may overlap, unless both share its lock.
     pub exclusive: bool,
@@ -36,14 +36,14 @@ pub struct CronEntry {
     pub group: Option<Bytes>,
     /// How it treats the lock of its group.
     pub mode: Mode,
-    /// The parts of its command, if it is known to have some.
+    /// The parts of its command; none if they aren't declared.
     pub parts: Sequence<PartEntry>,
     /// Whether the longest time is a draft's guess.
     pub guess: bool,
 }
 
-/// An entry of `parts`: one of the programs that a command runs one after the other, as run-parts(8)
-/// does.
+/// An entry of `parts`: one of the programs that a command runs one after the other, as
+/// run-parts(8) does.
 #[derive(Drop)]
 pub struct PartEntry {
     /// The name of the program.
@@ -78,27 +78,27 @@ pub struct DefaultEntry {
     pub weight: i128,
 }
 
-/// Declarations by their shape alone: whole numbers of any size.
+/// Declarations of the right shape, with whole numbers of any size.
 #[derive(Drop)]
 pub struct Entries {
     /// The most that running jobs may weigh together.
     pub capacity: i128,
-    /// The minutes by which the operator's clock is ahead of UTC.
+    /// Minutes by which the operator's clock is ahead of UTC.
     pub offset: i128,
-    /// The first minute of the catch-up hours, and the first after them.
+    /// The first minute of day of the catch-up hours, and the first after them.
     pub hours: (i128, i128),
     /// The minute of each day at which a catch-up pass begins, if declared.
     pub pass: Option<i128>,
     /// The groups.
     pub groups: Sequence<GroupEntry>,
-    /// The entries of cron jobs.
+    /// What is declared of cron jobs.
     pub cron: Sequence<CronEntry>,
-    /// The entries of anacron jobs.
+    /// What is declared of anacron jobs.
     pub anacron: Sequence<AnacronEntry>,
     /// What is declared of jobs without an entry, if anything.
     pub default: Option<DefaultEntry>,
     /// The lines of the crontab that the plan leaves out.
     pub left_out: Sequence<LineName>,
-    /// The first member that stands twice in one object of their text, if one does.
+    /// The first member that stands twice in one object of their text.
     pub doubled: Option<Bytes>,
 }

@@ -1,4 +1,4 @@
-//! The table of faults of tables and declarations, row after row.
+//! Answers the table of faults of tables and declarations, row after row.
 ghost use Rattle.std.specs.Prelude.{◌≡◌, IfOk, option_map};
 ghost use Rattle.cs_decl.specs.Faults.{first_fault};
 ghost use Rattle.cs_decl.specs.Join.{at_job, lineless, misquoted, ambiguous, named_twice};
@@ -18,7 +18,6 @@ use cs_crontab::Line;
 use cs_plan::{DeclFault, Found, Place, at_line, first_reboot};
 use std::alloc::{AllocError, Global};
 
-/// The fault at a job, if there is one.
 fn at_job(
     alloc: Global,
     fault: DeclFault,
@@ -97,7 +96,6 @@ fn twice_fault(
     Ok(None)
 }
 
-/// The first fault of what entries name.
 #[tactic(auto, using(crate::proofs::Order::in_front, crate::proofs::Order::behind))]
 pub(crate) fn naming_fault(
     alloc: Global,
@@ -120,7 +118,6 @@ pub(crate) fn naming_fault(
     twice_fault(alloc, lines, entries)
 }
 
-/// The first entry with another schedule than its line.
 #[tactic(auto, unfolding(crate::specs::Join::mistimed))]
 pub(crate) fn mistimed_fault(lines: &[Line], entries: &Entries) -> Option<Found>
     ensures { result ≡ first_fault (mistimed lines.now entries.now) }
@@ -134,7 +131,6 @@ pub(crate) fn mistimed_fault(lines: &[Line], entries: &Entries) -> Option<Found>
     None
 }
 
-/// The first of jobs without an entry and without a default, and of `@reboot` lines.
 #[tactic(auto, unfolding(crate::specs::Join::undeclared))]
 pub(crate) fn undeclared_fault(
     alloc: Global,

@@ -90,7 +90,6 @@ fn plan_of(
     ))
 }
 
-/// The crontab without the lines that are left out, and their numbers.
 #[tactic(auto, using(crate::proofs::Rests::rest_is))]
 fn rest_of(
     alloc: Global,
@@ -104,8 +103,6 @@ fn rest_of(
     Ok((crontab.without(left_out.as_slice()), left_out))
 }
 
-/// The plan of the rest of the crontab, unless a job of it has neither an entry nor the default, or
-/// an entry tells another schedule than its line has.
 #[tactic(auto, using(crate::proofs::Order::in_front, crate::proofs::Order::behind))]
 fn joined_rest(
     alloc: Global,
@@ -133,16 +130,15 @@ fn joined_rest(
 
 /// Joins tables and declarations to a plan, or returns their first fault.
 ///
-/// First come faults of what entries name, in the whole table, each kind at cron entries, then at
-/// anacron entries, then at those of `left_out`, in order: [`NoSuchLine`](DeclFault::NoSuchLine) if
-/// an entry has no command or job; [`OtherCommand`](DeclFault::OtherCommand) if it tells another
-/// command than its line has; [`AmbiguousCommand`](DeclFault::AmbiguousCommand) if it names several
-/// lines; [`TwiceDeclared`](DeclFault::TwiceDeclared) if its line has an entry already. Then come
-/// those of the lines that are not left out: [`Undeclared`](DeclFault::Undeclared) if a job has no
-/// entry and there is no default, in the order of jobs; [`RebootLine`](DeclFault::RebootLine) if one
-/// is an `@reboot`, declared or not, in order of line. Last comes
-/// [`OtherSchedule`](DeclFault::OtherSchedule), if the line of a cron entry, or of one of `left_out`,
-/// has another schedule than the entry tells. Memory may run out.
+/// First come faults of what entries name in the whole table, each kind at entries of `cron`, then
+/// of `anacron`, then of `left_out`: [`NoSuchLine`](DeclFault::NoSuchLine) if an entry names no
+/// line or job; [`OtherCommand`](DeclFault::OtherCommand) if its line has another command;
+/// [`AmbiguousCommand`](DeclFault::AmbiguousCommand) if it names several lines;
+/// [`TwiceDeclared`](DeclFault::TwiceDeclared) if its line has an entry already. Then come faults
+/// of jobs that aren't left out: [`Undeclared`](DeclFault::Undeclared) if one has no entry and
+/// there is no default; [`RebootLine`](DeclFault::RebootLine) if one is an `@reboot`, declared or
+/// not. Last comes [`OtherSchedule`](DeclFault::OtherSchedule), if the line of an entry of `cron`
+/// or `left_out` has another schedule. Memory may run out.
 #[tactic(auto, unfolding(crate::specs::Join::joined))]
 pub fn join(
     alloc: Global,

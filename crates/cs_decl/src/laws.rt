@@ -1,4 +1,4 @@
-//! Which fault of declarations is returned, and what there is where none is.
+//! States which fault of declarations is returned, and what holds where none is.
 ghost use Rattle.std.specs.Prelude.{◌≡◌, ◌↔◌, ◌++◌, ℕ, ◌<◌, map, List, Some, None, Ok, All, IsUtf8, true, false};
 ghost use Rattle.std.specs.Prelude.{Contains};
 ghost use Rattle.json.specs.Json.{Json, document};
@@ -19,26 +19,26 @@ ghost use Rattle.cs_decl.specs.Meaning.{IsValid};
 ghost use Rattle.cs_decl.specs.Parts.{AreItsParts};
 ghost use Rattle.cs_plan.specs.Plan.{Declared, places_of, command_of, job_at, crons};
 
-/// Lemma. The fault that is returned has the smallest number of those there are, and the first
-/// place of that number; if none is returned there is none.
+/// Lemma. The fault that is returned has the smallest number of those that stand, and the first
+/// place of that number; none is returned only where none stands.
 pub fn first_of_faults()
     ensures first { (d : Entries) (f : Fault) → first_fault (faults_of d) ≡ Some f → IsFirst d f }
     ensures none { (d : Entries) (f : Fault) → first_fault (faults_of d) ≡ None → stands d f ≡ true
         → ⊥ }
 {}
 
-/// Lemma. Where tables and declarations make a plan, each entry that tells a command or a schedule
-/// tells that of its line, one that is left out or not.
+/// Lemma. If a plan is made, each entry that gives a command or a schedule gives that of its line,
+/// left out or not.
 pub fn commands_are_those_of_lines()
     ensures { (table : Table) (jobs : JobTable) (d : Entries) (plan : Declared)
         → joined table jobs d ≡ Ok plan
         → All (λ name. All (TellsOf name) table.lines) (names_of d) }
 {}
 
-/// Lemma. An entry that tells a command, and a schedule too where several lines have that command,
-/// stays with them, whichever lines change places: where two tables make plans with the same
-/// declarations, and of the second one's lines one alone has what the entry tells, the entry names
-/// there the line that has the command and the schedule of its line in the first.
+/// Lemma. An entry that gives a command, and a schedule too where several lines have that command,
+/// stays with them when lines change places: if two tables make plans with the same declarations,
+/// and only one line of the second has what the entry gives, the entry names there the line with
+/// the command and schedule that its line has in the first.
 pub fn entries_stay_with_commands()
     ensures { (d : Entries) (one other : Table) (jobs more : JobTable) (p q : Declared)
         (name : LineName) (a b : CommandLine) → joined one jobs d ≡ Ok p
@@ -48,26 +48,23 @@ pub fn entries_stay_with_commands()
         → count_by (is_told name) other.lines ≡ 1 → is_named name b ≡ true }
 {}
 
-/// Lemma. Where tables and declarations make a plan, each entry names exactly one line, left out or
-/// not.
+/// Lemma. If a plan is made, each entry names exactly one line, left out or not.
 pub fn each_entry_names_one_line()
     ensures { (table : Table) (jobs : JobTable) (d : Entries) (plan : Declared)
         → joined table jobs d ≡ Ok plan
         → All (λ name. count_by (is_named name) table.lines ≡ 1) (names_of d) }
 {}
 
-/// Lemma. Where tables and declarations make a plan, no entry of `cron` names a line that one of
-/// `left_out` names.
+/// Lemma. If a plan is made, no entry of `cron` names a line that one of `left_out` names.
 pub fn left_out_lines_have_no_entry()
     ensures { (table : Table) (jobs : JobTable) (d : Entries) (plan : Declared)
         → joined table jobs d ≡ Ok plan
         → All (λ line. IsLeftOut d line → HasNoEntry d line) table.lines }
 {}
 
-/// Lemma. Where tables and declarations make a plan, each line of the table is in its crontab, or
-/// an entry of `left_out` names it and the plan tells its number, in order of line; and each line
-/// of the plan has one job, which an entry that names it declares, or else the default. Without a
-/// default no job has it.
+/// Lemma. If a plan is made, each line is in it, or an entry of `left_out` names it and the plan
+/// lists its number, in order of line. Each line of the plan has one job, which an entry that names
+/// it declares, or else the default. Without a default no job has it.
 pub fn each_line_has_its_job()
     ensures lines { (table : Table) (jobs : JobTable) (d : Entries) (plan : Declared)
         → joined table jobs d ≡ Ok plan
@@ -83,9 +80,8 @@ pub fn each_line_has_its_job()
         → joined table jobs d ≡ Ok plan → d.default ≡ None → plan.defaulted ≡ 0 }
 {}
 
-/// Lemma. Where tables and declarations make a plan, it tells no guess exactly if no entry is one;
-/// and of the lines whose entry tells a command that several lines have, and no schedule, it tells
-/// one, if there is one.
+/// Lemma. If a plan is made, it counts no guess exactly if no entry is one. It names a line whose
+/// command several lines have and whose entry gives no schedule, if there is one.
 pub fn guesses_and_untimed_lines_are_told()
     ensures guesses { (table : Table) (jobs : JobTable) (d : Entries) (plan : Declared)
         → joined table jobs d ≡ Ok plan → (plan.guessed ≡ 0) ↔ (All (λ e. e.guess ≡ false) d.cron
@@ -98,13 +94,13 @@ pub fn guesses_and_untimed_lines_are_told()
         → All (λ line. IsUntimed d table.lines line → ⊥) table.lines }
 {}
 
-/// Lemma. Where declarations are read, the parts of an entry, if it has some, have names of their own,
-/// each from 1 to 4,320 minutes, and all together are within the entry's longest time.
+/// Lemma. The parts of a valid entry, if it has some, have different names, take 1 to 4,320 minutes
+/// each, and together at most the entry's longest time.
 pub fn parts_make_up_the_whole()
     ensures { (d : Entries) → IsValid d → All AreItsParts d.cron }
 {}
 
-/// Lemma. A member is found that stands twice exactly if an object of the text has one, as the JSON
+/// Lemma. A member that stands twice is found exactly if an object of the text has one, as the JSON
 /// library defines it.
 pub fn doubled_members_are_told()
     ensures all { (text : List ℕ) (j : Json) → IsUtf8 text → document text ≡ Some j

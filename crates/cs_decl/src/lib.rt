@@ -1,4 +1,4 @@
-//! Declarations of the jobs of a crontab and an anacrontab, and the plan that they make together.
+//! Reads declarations of jobs, and joins them with a crontab and an anacrontab to a plan.
 #![tactic(auto)]
 
 mod declarations;

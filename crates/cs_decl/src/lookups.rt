@@ -1,4 +1,4 @@
-//! Lines that are left out, jobs without an entry, and entries without a job.
+//! Finds lines that are left out, jobs without an entry, and entries without a job.
 ghost use Rattle.std.specs.Prelude.{◌≡◌, ◌≤◌, ◌+◌, ◌&&◌, not, nat_lt, bytes_eq, length, map, option_map, position};
 ghost use Rattle.std.specs.Prelude.{IfOk};
 ghost use Rattle.std.specs.List.{find, filter, list_any, count_by};
@@ -67,7 +67,6 @@ fn is_undeclared_job(entries: &Entries, line: &JobLine) -> bool
     entries.default.is_none() && !has_job_entry(entries, line)
 }
 
-/// The index of the first anacron entry without a job.
 pub(crate) fn jobless(entries: &[AnacronEntry], lines: &[JobLine]) -> Option<usize>
     ensures { result ≡ position (has_no_job lines.now) entries.now }
 {
@@ -89,7 +88,6 @@ pub(crate) fn first_undeclared_job<'l>(
     lines.iter().find(|line| is_undeclared_job(entries, line))
 }
 
-/// The numbers of the lines that are left out, in order of line.
 pub(crate) fn lines_left_out(
     alloc: Global,
     entries: &Entries,
@@ -126,7 +124,7 @@ fn count_jobs_without_entry(entries: &Entries, lines: &[JobLine]) -> usize
         .count()
 }
 
-/// The number of the jobs without an entry.
+/// How many jobs have no entry.
 #[tactic(auto, using(crate::proofs::Rests::count_within))]
 pub(crate) fn defaulted(entries: &Entries, commands: &[Line], lines: &[JobLine]) -> usize
     requires commands { length commands.now ≤ MAX_COMMANDS }
@@ -209,7 +207,7 @@ fn first_untimed<'l>(entries: &Entries, lines: &'l [Line]) -> Option<&'l Line>
     lines.iter().find(|line| is_untimed(entries, lines, line))
 }
 
-/// The number of the first line whose entry tells its command and no schedule, while another line
+/// The number of the first line whose entry gives its command and no schedule, while another line
 /// has that command too.
 pub(crate) fn untimed(entries: &Entries, lines: &[Line]) -> Option<u32>
     ensures { result ≡ untimed entries.now lines.now }

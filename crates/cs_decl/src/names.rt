@@ -1,4 +1,4 @@
-//! Groups by their names.
+//! Looks up groups by their names.
 ghost use Rattle.std.specs.Prelude.{◌≡◌, ℕ, List, IfOk, position, bytes_eq};
 ghost use Rattle.std.specs.List.{list_any};
 ghost use Rattle.cs_decl.specs.Faults.{is_unlisted};
@@ -46,7 +46,6 @@ fn unnamed_anacron(names: &IndexSet<&[u8]>, anacron: &[AnacronEntry]) -> Option<
         .position(|entry| is_unnamed(names, &entry.group))
 }
 
-/// The index of the first cron entry whose group isn't declared.
 pub(crate) fn unlisted_cron(alloc: Global, entries: &Entries) -> Result<Option<usize>, AllocError>
     ensures { IfOk result
         (λ o. o ≡ position (λ e. is_unlisted entries.now.groups e.group) entries.now.cron) }
@@ -55,7 +54,6 @@ pub(crate) fn unlisted_cron(alloc: Global, entries: &Entries) -> Result<Option<u
     Ok(unnamed_cron(&names, entries.cron.as_slice()))
 }
 
-/// The index of the first anacron entry whose group isn't declared.
 pub(crate) fn unlisted_anacron(
     alloc: Global,
     entries: &Entries,

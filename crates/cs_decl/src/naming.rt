@@ -1,4 +1,4 @@
-//! The lines that entries name.
+//! Finds the lines that entries name.
 ghost use Rattle.std.specs.Prelude.{◌≡◌, ◌&&◌, option_map, position, IfOk};
 ghost use Rattle.std.specs.List.{find, list_any, count_by};
 ghost use Rattle.cs_decl.specs.Join.{is_named, has_no_line, is_unlike, has_other_command};
@@ -11,8 +11,8 @@ use cs_civil::{Bytes, Sequence};
 use cs_crontab::Line;
 use std::alloc::{AllocError, Global};
 
-/// Whether it names the line: by a number the line that has it, else each line with its command and,
-/// where it tells one, its schedule.
+/// Whether the name is the line's: a number names the line that has it; else a command names each
+/// line with that command and, if the name gives one, with its schedule.
 pub fn is_named(name: &LineName, line: &Line) -> bool
     ensures { result ≡ is_named name.now line.now }
 {
@@ -67,7 +67,6 @@ fn is_ambiguous(lines: &[Line], name: &LineName) -> bool
     count_named(lines, name) > 1
 }
 
-/// The index of the first cron entry that names no line.
 pub(crate) fn lineless_cron(entries: &[CronEntry], lines: &[Line]) -> Option<usize>
     ensures { result ≡ position (λ e. has_no_line lines.now e.name) entries.now }
 {
@@ -76,14 +75,12 @@ pub(crate) fn lineless_cron(entries: &[CronEntry], lines: &[Line]) -> Option<usi
         .position(|entry| !has_line(lines, &entry.name))
 }
 
-/// The index of the first of these names that names no line.
 pub(crate) fn lineless(names: &[LineName], lines: &[Line]) -> Option<usize>
     ensures { result ≡ position (has_no_line lines.now) names.now }
 {
     names.iter().position(|name| !has_line(lines, name))
 }
 
-/// The index of the first cron entry whose line has another command than the entry tells.
 pub(crate) fn other_cron(entries: &[CronEntry], lines: &[Line]) -> Option<usize>
     ensures { result ≡ position (λ e. has_other_command lines.now e.name) entries.now }
 {
@@ -92,14 +89,12 @@ pub(crate) fn other_cron(entries: &[CronEntry], lines: &[Line]) -> Option<usize>
         .position(|entry| has_other_command(lines, &entry.name))
 }
 
-/// The index of the first of these names whose line has another command than it tells.
 pub(crate) fn other(names: &[LineName], lines: &[Line]) -> Option<usize>
     ensures { result ≡ position (has_other_command lines.now) names.now }
 {
     names.iter().position(|name| has_other_command(lines, name))
 }
 
-/// The index of the first cron entry whose line has another schedule than the entry tells.
 pub(crate) fn mistimed_cron(entries: &[CronEntry], lines: &[Line]) -> Option<usize>
     ensures { result ≡ position (λ e. has_other_schedule lines.now e.name) entries.now }
 {
@@ -108,7 +103,6 @@ pub(crate) fn mistimed_cron(entries: &[CronEntry], lines: &[Line]) -> Option<usi
         .position(|entry| has_other_schedule(lines, &entry.name))
 }
 
-/// The index of the first of these names whose line has another schedule than it tells.
 pub(crate) fn mistimed(names: &[LineName], lines: &[Line]) -> Option<usize>
     ensures { result ≡ position (has_other_schedule lines.now) names.now }
 {
@@ -117,7 +111,6 @@ pub(crate) fn mistimed(names: &[LineName], lines: &[Line]) -> Option<usize>
         .position(|name| has_other_schedule(lines, name))
 }
 
-/// The index of the first cron entry that names several lines.
 pub(crate) fn ambiguous_cron(entries: &[CronEntry], lines: &[Line]) -> Option<usize>
     ensures { result ≡ position (λ e. is_ambiguous lines.now e.name) entries.now }
 {
@@ -126,7 +119,6 @@ pub(crate) fn ambiguous_cron(entries: &[CronEntry], lines: &[Line]) -> Option<us
         .position(|entry| is_ambiguous(lines, &entry.name))
 }
 
-/// The index of the first of these names that names several lines.
 pub(crate) fn ambiguous(names: &[LineName], lines: &[Line]) -> Option<usize>
     ensures { result ≡ position (is_ambiguous lines.now) names.now }
 {
@@ -150,7 +142,6 @@ fn number_of(lines: &[Line], name: &LineName) -> Option<i128>
     }
 }
 
-/// The numbers of the lines that cron entries name, by entry.
 pub(crate) fn cron_numbers(
     alloc: Global,
     lines: &[Line],
@@ -165,7 +156,6 @@ pub(crate) fn cron_numbers(
     Ok(numbers)
 }
 
-/// The numbers of the lines that entries of `left_out` name, by entry.
 pub(crate) fn left_out_numbers(
     alloc: Global,
     lines: &[Line],

@@ -1,4 +1,4 @@
-//! Whether the parts of a command make it up.
+//! Decides whether the parts of a command make it up.
 ghost use Rattle.std.specs.Prelude.{◌≡◌, IfOk, false, position};
 ghost use Rattle.std.specs.List.{list_any};
 ghost use Rattle.cs_decl.specs.Faults.{are_bad, has_bad_parts, is_bad_max, minutes_of};
@@ -14,7 +14,6 @@ fn have_bad_max(parts: &[PartEntry]) -> bool
     parts.iter().any(|part| is_bad_max(part.max))
 }
 
-/// The longest times together.
 fn minutes_of(parts: &[PartEntry]) -> u128
     requires { list_any (λ p. is_bad_max p.max) parts.now ≡ false }
     ensures { result ≡ minutes_of parts.now }
@@ -44,7 +43,6 @@ fn has_bad_parts(alloc: Global, entry: &CronEntry) -> Result<bool, AllocError>
     are_bad(alloc, entry.max, entry.parts.as_slice())
 }
 
-/// The index of the first cron entry that has bad parts.
 pub(crate) fn first_with_bad_parts(
     alloc: Global,
     cron: &[CronEntry],

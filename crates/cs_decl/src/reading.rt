@@ -50,7 +50,7 @@ fn text_if_there(alloc: Global, value: &Value, name: &str) -> Result<Option<Byte
     }
 }
 
-/// Passes over a note, which is for people. `BadShape` if it isn't a text.
+/// Passes over a note, which is for people: any text will do.
 fn pass_note(value: &Value) -> Result<(), Misread>
     ensures { Gives (λ u. u) result (note_of (view value.now)) }
 {
@@ -75,7 +75,6 @@ fn list_member<T: FromJson>(
     Ok(Sequence::from_vec(items))
 }
 
-/// The weight, by default 1.
 fn weight_member(alloc: Global, value: &Value) -> Result<i128, Misread>
     ensures { Gives (λ w. w) result
         (member_or_default whole_number (pos 1) (codes "weight") (view value.now)) }
@@ -83,7 +82,6 @@ fn weight_member(alloc: Global, value: &Value) -> Result<i128, Misread>
     member_or(alloc, value, "weight", 1)
 }
 
-/// The schedule that a member tells, if it is there. `BadShape` if its text stands for none.
 fn when_if_there(alloc: Global, value: &Value) -> Result<Option<When>, Misread>
     ensures { Gives (λ w. w) result (member_or_none when_of (codes "when") (view value.now)) }
 {
@@ -99,15 +97,13 @@ fn when_if_there(alloc: Global, value: &Value) -> Result<Option<When>, Misread>
     }
 }
 
-/// Whether the longest time is a draft's guess: by default it isn't.
 fn guess_member(alloc: Global, value: &Value) -> Result<bool, Misread>
     ensures { Gives (λ g. g) result (guess_of (view value.now)) }
 {
     member_or(alloc, value, "guess", false)
 }
 
-/// The number of a line, its command or both, and perhaps its schedule. `BadShape` if there is
-/// neither number nor command.
+/// `BadShape` if there is neither number nor command.
 #[tactic(auto, unfolding(crate::specs::Shape::line_name_of))]
 fn line_name(alloc: Global, value: &Value) -> Result<LineName, Misread>
     ensures { Gives (λ n. n) result (line_name_of (view value.now)) }
@@ -337,7 +333,6 @@ fn whole_object(value: &Value) -> Result<(), Misread>
     )
 }
 
-/// What is declared of all jobs together.
 #[derive(Drop)]
 struct Terms {
     capacity: i128,

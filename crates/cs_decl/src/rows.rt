@@ -1,4 +1,4 @@
-//! The table of faults, row after row.
+//! Answers the table of faults, row after row.
 ghost use Rattle.std.specs.Prelude.{◌≡◌, ◌++◌, IfOk, Some, position};
 ghost use Rattle.cs_decl.specs.Faults.{is_within, is_bad_offset, is_bad_max, is_bad_weight};
 ghost use Rattle.cs_decl.specs.Faults.{is_bad_default, needs_group, are_bad_hours};
@@ -204,7 +204,6 @@ fn bad_parts(alloc: Global, entries: &Entries) -> Result<Option<Found>, AllocErr
     }
 }
 
-/// What is wrong with times, and then with parts.
 #[tactic(auto, using(crate::proofs::Order::first_bad_time, crate::proofs::Order::past_times))]
 fn bad_times_or_parts(alloc: Global, entries: &Entries) -> Result<Option<Found>, AllocError>
     ensures { IfOk result

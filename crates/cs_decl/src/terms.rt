@@ -1,4 +1,4 @@
-//! The jobs that entries declare.
+//! Makes the jobs that entries declare.
 ghost use Rattle.std.specs.Prelude.{◌≡◌, ◌<◌, ◌≤◌, ◌^◌, ◌++◌, map, length, unsigned_abs, IfOk};
 ghost use Rattle.std.specs.Prelude.{OnOk, IfSome, Some, option_map, position, bytes_eq};
 ghost use Rattle.std.specs.List.{find};
@@ -18,7 +18,6 @@ use cs_history::Mode;
 use cs_plan::{Group, Job};
 use std::alloc::{AllocError, Global};
 
-/// A whole number known to be small, as an unsigned one.
 pub(crate) fn small(number: i128) -> u16
     requires { unsigned_abs number < 2 ^ 16 }
     ensures { result ≡ unsigned_abs number }
@@ -179,7 +178,6 @@ fn push_anacron_jobs(
     Ok(())
 }
 
-/// The jobs of the lines, as their entries or the default declare them.
 pub(crate) fn jobs_of(
     alloc: Global,
     commands: &[Line],

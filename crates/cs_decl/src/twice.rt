@@ -1,4 +1,4 @@
-//! What is declared twice.
+//! Finds what is declared twice.
 ghost use Rattle.std.specs.Prelude.{◌≡◌, ◌<◌, ℕ, ℤ, List, IfOk, IfSome, Some, length, map, bytes_eq};
 ghost use Rattle.std.specs.Ordering.{int_eq};
 ghost use Rattle.std.specs.List.{list_any};
@@ -10,7 +10,6 @@ use indexmap::IndexSet;
 use json::Value;
 use std::alloc::{AllocError, Global};
 
-/// What has a name of its own among others.
 pub(crate) trait Named {
     /// The bytes of the name.
     ghost name_of: { Self → List ℕ };
@@ -52,7 +51,7 @@ impl<'a> Named for (&'a str, Value<'a>) {
     }
 }
 
-/// The index of the first item whose name an earlier one has.
+/// The index of the first item with the name of an earlier one.
 pub(crate) fn first_twice<T: Named>(alloc: Global, items: &[T]) -> Result<Option<usize>, AllocError>
     ensures value { IfOk result (λ o. o ≡ first_twice bytes_eq (map T.name_of items.now)) }
     ensures within { IfOk result (λ o. IfSome o (λ i. i < length items.now)) }
@@ -66,7 +65,6 @@ pub(crate) fn first_twice<T: Named>(alloc: Global, items: &[T]) -> Result<Option
     Ok(None)
 }
 
-/// The numbers that are there.
 fn set_of(alloc: Global, numbers: &[Option<i128>]) -> Result<IndexSet<i128>, AllocError>
     ensures { IfOk result
         (λ set. (n : ℤ) → list_any (int_eq n) set.keys
@@ -81,7 +79,7 @@ fn set_of(alloc: Global, numbers: &[Option<i128>]) -> Result<IndexSet<i128>, All
     Ok(set)
 }
 
-/// The index of the first number that is one of `before`, or that an earlier one is.
+/// The index of the first number that is one of `before` or of the earlier ones.
 pub(crate) fn twice_number(
     alloc: Global,
     before: &[Option<i128>],
@@ -100,7 +98,6 @@ pub(crate) fn twice_number(
     Ok(None)
 }
 
-/// The index of the first cron entry whose number an earlier one has.
 pub(crate) fn twice_line(alloc: Global, cron: &[CronEntry]) -> Result<Option<usize>, AllocError>
     ensures { IfOk result
         (λ o. o ≡ first_twice same_number (map (λ e. e.name.number) cron.now)) }

@@ -1,4 +1,4 @@
-//! The schedule that an entry tells beside the command.
+//! Reads and compares the schedule that an entry gives with its command.
 ghost use Rattle.std.specs.Prelude.{◌≡◌, IfOk};
 ghost use Rattle.cs_decl.specs.When.{agree, is_told_when, same_choice, same_numbers, same_times};
 ghost use Rattle.cs_decl.specs.When.{same_when, when_named};
@@ -6,8 +6,8 @@ ghost use Rattle.cs_decl.specs.When.{same_when, when_named};
 use cs_crontab::{Entry, Field, Numbers, Part, Schedule, When, read_line};
 use std::alloc::{AllocError, Global};
 
-/// What the text stands for in front of a command, as `crontab(5)` has it: five fields, or an `@`
-/// word; `None` for any other text. The only error is out of memory.
+/// What a text means before a command in `crontab(5)`: five fields, or an `@` word; `None` for any
+/// other text.
 #[tactic(auto, unfolding(crate::specs::When::when_named))]
 pub fn named_when(alloc: Global, text: &str) -> Result<Option<When>, AllocError>
     ensures { IfOk result (λ when. when ≡ when_named text.now) }
@@ -61,7 +61,8 @@ fn is_same_schedule(one: &Schedule, other: &Schedule) -> bool
         && is_same_field(one.field(Part::Dow), other.field(Part::Dow))
 }
 
-/// Whether both are the same five fields, or `@reboot`.
+/// Whether both are `@reboot`, or the same five fields: with the same numbers each, and `*` at the
+/// start of both or of neither.
 pub fn is_same_when(one: &When, other: &When) -> bool
     ensures { result ≡ same_when one.now other.now }
 {
@@ -72,8 +73,7 @@ pub fn is_same_when(one: &When, other: &When) -> bool
     }
 }
 
-/// Whether no schedule is told, or this one: the same numbers in each field, and the same fields
-/// that begin with `*`; or `@reboot` for both.
+/// Whether an entry gives this schedule, or none.
 pub fn is_told_when(told: &Option<When>, when: &When) -> bool
     ensures { result ≡ is_told_when told.now when.now }
 {

@@ -2,7 +2,7 @@
 use Rattle.std.specs.Prelude.{ℕ, List, Option, option_map}
 use Rattle.std.specs.Borrow.{Bor}
 
--- the name of a run, such as `line 3 due 2024-09-13 23:30`, its command, its standard input if it has
+-- a run's name, such as `line 3 due 2024-09-13 23:30`, its command, its standard input if it has
 -- one, and the settings in its environment
 pub record Asked : Type 0 where
   pub name : List ℕ
@@ -10,7 +10,6 @@ pub record Asked : Type 0 where
   pub input : Option (List ℕ)
   pub variables : List (List ℕ × List ℕ)
 
--- the same of the words of a call
 abbrev pub asked : List ℕ → List ℕ → Option (Bor (List ℕ)) → List (List ℕ × List ℕ) → Asked
 asked name command input variables = record {
   name = name;

@@ -1,4 +1,4 @@
--- How often a device can be counted to have failed.
+-- How many failures of a device can be counted.
 use Rattle.std.specs.Prelude.{ℕ, ◌^◌, ◌-◌}
 
 abbrev pub most_failures : ℕ

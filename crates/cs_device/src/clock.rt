@@ -1,4 +1,3 @@
-//! Clocks, by their answers.
 ghost use Rattle.std.specs.Prelude.{◌≡◌, ℕ, ◌+◌, ◌<◌, ◌≤◌, Option, Some};
 
 use cs_civil::Minute;
@@ -14,7 +13,7 @@ pub enum Tick {
     Failed,
 }
 
-/// A clock in whole minutes, by its answers so far.
+/// A clock in whole minutes; contracts see its answers so far.
 pub trait Clock {
     ghost use Rattle.cs_device.specs.declared.clock.Tick.{Tick};
     ghost use Rattle.cs_device.specs.declared.clock.Tick.TheVariants.{Failed};
@@ -23,7 +22,7 @@ pub trait Clock {
     /// The last answer, if there is one.
     ghost last: { Self → Option Tick };
 
-    /// How often it could not be read.
+    /// How often it couldn't be read.
     ghost failures: { Self → ℕ };
 
     /// The greatest minute so far, 0 before the first.
@@ -32,8 +31,8 @@ pub trait Clock {
     /// How many answers were a minute later than all before.
     ghost risen: { Self → ℕ };
 
-    /// Returns the next answer. `now` is the last minute returned, none before the first. A clock
-    /// returns at once from the first call and waits in each other, so no loop over it is busy.
+    /// Returns the next answer; `now` is the last minute that it returned. A clock answers the
+    /// first call at once and waits in each later one, so a loop over it isn't busy.
     fn tick(&mut self, now: Option<Minute>) -> Tick
         ensures last { last self.new ≡ Some result }
         ensures failures { failures self.old ≤ failures self.new }

@@ -6,7 +6,8 @@ use std::marker::Model;
 
 /// How often a device has failed, up to the greatest number of 64 bits.
 ///
-/// A device may report a failure only if its count rises. Each says what it does on one more.
+/// A device may report a failure only if its count rises; what it does on one more, it defines
+/// itself.
 #[derive(Clone, Copy, PartialEq, Eq)]
 pub struct Failures {
     count: u64,

@@ -6,7 +6,7 @@ use cs_history::Run;
 pub enum Point {
     /// Its command has not started.
     Before,
-    /// Its command has ended, or could not be started.
+    /// Its command has ended, or couldn't be started.
     After,
 }
 

@@ -6,7 +6,7 @@ ghost use Rattle.cs_device.specs.declared.clock.Tick.TheVariants.{At};
 /// Lemma. The risen minutes count the answers that are later than all before.
 pub fn risen_minutes()
 
-    // an answer is counted once if it is a minute later than all before, else not
+    // an answer is counted exactly if it is a minute later than all before
     ensures risen { (top : ℕ) (t : Tick)
         → (risen_by top t ≡ 1) ↔ ((m : ℕ) × (t ≡ At m) × (top < m)) }
     ensures once { (top : ℕ) (t : Tick) → (risen_by top t ≡ 0) ⊎ (risen_by top t ≡ 1) }

@@ -1,4 +1,4 @@
-//! The daemon's devices: a clock, runs of commands, stamps, and a gate for tests.
+//! Declares the daemon's devices: a clock, a runner of commands, stamps, and a gate for tests.
 #![tactic(auto)]
 
 mod clock;

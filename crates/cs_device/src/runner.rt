@@ -11,9 +11,9 @@ pub enum Outcome {
     Exited(i32),
     /// A signal of this number ended it.
     Killed(i32),
-    /// It ended without a status, and nothing is told of a signal.
+    /// It ended without a status, and no signal is known.
     Ended,
-    /// It could not be started.
+    /// It couldn't be started.
     NotStarted,
 }
 
@@ -23,16 +23,15 @@ pub trait Runner {
     ghost use Rattle.cs_device.specs.declared.runner.Outcome.{Outcome};
     ghost use Rattle.cs_device.specs.declared.runner.Outcome.TheVariants.{NotStarted};
 
-    /// What one run of what is asked does to the runner, by its outcome. Where nothing is known of a
-    /// runner, that it went from one state to the other shows that this was run, once.
+    /// What one run does to the runner, by what is asked and the outcome. A proof about any runner
+    /// knows nothing else of it: going from one state to the other shows that this was run, once.
     ghost runs: { Self → Asked → Outcome → Self → Type 0 };
 
-    /// How often a command could not be started.
+    /// How often a command couldn't be started.
     ghost failures: { Self → ℕ };
 
-    /// Runs a command with this standard input, or an empty one, and these settings, each a name
-    /// and its value, in its environment, for the run of this name, as a log has it. Returns when it
-    /// has ended.
+    /// Runs a command with this standard input, or an empty one, and these names and values in its
+    /// environment. `name` is the run's, as a log has it. Returns when the command has ended.
     fn run(
         &mut self,
         name: &[u8],

@@ -1,4 +1,3 @@
-//! Stores of stamps, by their answers.
 ghost use Rattle.std.specs.Prelude.{◌≡◌, ℕ, ◌<◌, ◌≤◌, false};
 
 use cs_civil::Day;
@@ -23,10 +22,10 @@ pub trait StampStore {
     /// What reading an identifier's stamp does to the store, by its answer.
     ghost reads: { Self → List ℕ → Stamp → Self → Type 0 };
 
-    /// What writing an identifier's stamp, of a day, does to it, by whether it is written.
+    /// What writing a day for an identifier does to it, by whether it is written.
     ghost writes: { Self → List ℕ → ℕ → Bool → Self → Type 0 };
 
-    /// How often a stamp could not be read or written.
+    /// How often a stamp couldn't be read or written.
     ghost failures: { Self → ℕ };
 
     /// Reads the stamp of a job.
@@ -35,7 +34,7 @@ pub trait StampStore {
         ensures failures { failures self.old ≤ failures self.new }
         ensures failed { result ≡ Failed → failures self.old < failures self.new };
 
-    /// Writes the stamp of a job in place of the one before, and returns whether it is written.
+    /// Replaces the stamp of a job, and returns whether it is written.
     fn write(&mut self, identifier: &[u8], day: Day) -> bool
         ensures writes { writes self.old identifier.now day result self.new }
         ensures failures { failures self.old ≤ failures self.new }

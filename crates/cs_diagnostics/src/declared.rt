@@ -1,4 +1,4 @@
-//! Declarations: what is wrong with their entries by themselves and beside each other.
+//! Faults of declarations' entries, by themselves and beside each other.
 use crate::entry::{Entry, Kind, find_twice, texts_in};
 use crate::findings::{Done, Findings, Words};
 use crate::names::{nearest, quoted};
@@ -10,7 +10,7 @@ use indexmap::IndexMap;
 use serde_json::Value;
 use std::alloc::{AllocError, Global};
 
-/// The parts that an entry of `cron` lists, if it lists any. The only error is out of memory.
+/// The parts that an entry of `cron` lists. The only error is out of memory.
 pub fn parts_in<'v>(
     alloc: Global,
     bytes: &[u8],
@@ -23,7 +23,7 @@ pub fn parts_in<'v>(
     Ok(parts)
 }
 
-/// Adds what is wrong with the parts of an entry, each by itself and all together.
+/// Adds the faults of an entry's parts, of each and of their sum.
 fn find_in_parts(findings: &mut Findings, bytes: &[u8], entry: &Entry<'_>) -> Done {
     let parts = parts_in(findings.alloc, bytes, entry)?;
     let mut minutes = Some(0i128);
@@ -70,7 +70,7 @@ fn no_group_words(alloc: Global, groups: &IndexMap<&str, Span>, name: &str) -> W
     }
 }
 
-/// Declarations that are JSON: the whole of them, and their entries.
+/// Declarations that are JSON: the whole and its entries.
 #[derive(Drop)]
 pub struct Declarations<'v> {
     pub whole: Entry<'v>,
@@ -79,7 +79,7 @@ pub struct Declarations<'v> {
 }
 
 impl<'v> Declarations<'v> {
-    /// Those of a text, which is that value. The only error is out of memory.
+    /// `value` is what `bytes` are in JSON. The only error is out of memory.
     pub fn new(
         alloc: Global,
         bytes: &[u8],
@@ -97,7 +97,8 @@ impl<'v> Declarations<'v> {
         Ok(Declarations { whole, entries })
     }
 
-    /// Whether it's known which entries of a kind there are. The only error is out of memory.
+    /// Whether all entries of a kind are known: their list is one, and no misspelt member may be
+    /// meant. The only error is out of memory.
     pub fn has_all(&self, alloc: Global, kind: Kind) -> Result<bool, AllocError> {
         let [list, ..] = kind.texts();
         match self.whole.object.member(list) {
@@ -106,7 +107,7 @@ impl<'v> Declarations<'v> {
         }
     }
 
-    /// Adds what is wrong with them, as far as that shows without the tables.
+    /// Adds all faults that show without the tables.
     pub fn find_faults(&self, findings: &mut Findings, bytes: &[u8]) -> Done {
         if !self.whole.is_object {
             let fault = DeclFault::BadShape;
@@ -131,7 +132,7 @@ impl<'v> Declarations<'v> {
         )
     }
 
-    /// Adds what is wrong with groups, and with those of entries.
+    /// Adds the faults of groups, and of entries' groups.
     fn find_in_groups(&self, findings: &mut Findings) -> Done {
         let alloc = findings.alloc;
         let groups = texts_in(alloc, self.entries.as_slice(), Kind::Group, "name")?;

@@ -1,4 +1,4 @@
-//! The lines that show a fault of declarations, as their readers answer it.
+//! Lines that show the first fault of declarations.
 use crate::declared::Declarations;
 use crate::entry::{Entry, Kind};
 use crate::findings::{Done, Findings};
@@ -9,8 +9,7 @@ use cs_plan::{DeclError, DeclFault, Place};
 use serde_json::Value;
 use std::alloc::{AllocError, Global};
 
-/// The kind of entries to which a place belongs, and if it's that of an entry, its place among them,
-/// counted from 0.
+/// The kind of entries to which a place belongs, and the entry's index, from 0.
 fn entry_at(place: &Option<Place>) -> (Kind, Option<usize>) {
     match place {
         Some(Place::Group(index)) => (Kind::Group, Some(*index)),
@@ -86,7 +85,6 @@ fn advice(fault: DeclFault, kind: Kind, has_line: bool, has_jobs: bool) -> [&'st
 }
 
 impl Declarations<'_> {
-    /// The entry of that kind with that place among them.
     fn entry(&self, kind: Kind, index: Option<usize>) -> Option<&Entry<'_>> {
         for entry in self.entries.iter() {
             if entry.kind == kind && Some(entry.index) == index {
@@ -96,8 +94,7 @@ impl Declarations<'_> {
         None
     }
 
-    /// Where a fault of these entries is: at the member of the one with that place, or where the
-    /// entry, its list or the whole begins.
+    /// The place of the entry's member; else where the entry, its list or the whole begins.
     fn place_of(&self, kind: Kind, index: Option<usize>, member: &str) -> Span {
         if let Some(entry) = self.entry(kind, index) {
             return match entry.object.member(member) {
@@ -112,7 +109,7 @@ impl Declarations<'_> {
         }
     }
 
-    /// Whether the entry of that kind with that place names its line by number.
+    /// Whether the entry names its line by number.
     fn has_line(&self, kind: Kind, index: Option<usize>) -> bool {
         match self.entry(kind, index) {
             Some(entry) => entry.object.has("line"),
@@ -121,7 +118,7 @@ impl Declarations<'_> {
     }
 }
 
-/// Adds a fault of declarations, which are that value, as their readers answer it; and no other.
+/// Adds all faults that have the reader's fault and place, or that fault alone where none is found.
 fn find_fault(
     findings: &mut Findings,
     bytes: &[u8],
@@ -142,9 +139,9 @@ fn find_fault(
     findings.fault(span, format_args!("{name}: {why}"))
 }
 
-/// What [`Findings::tell`] prints of the first fault of declarations, as their readers answer it,
-/// after a newline and without the last one; nothing if that is that memory ran out. It's given
-/// whether there is an anacrontab with jobs. The only error is out of memory.
+/// What [`Findings::tell`] prints of the first fault of declarations, after a newline and without
+/// the last one; none where the reader ran out of memory. `has_jobs` says whether an anacrontab has
+/// jobs. The only error is out of memory.
 pub fn declared_lines(
     alloc: Global,
     file: &File<'_>,

@@ -1,4 +1,4 @@
-//! The objects of declarations: of which kind each is, and where it stands.
+//! The objects of declarations, with their kinds and places.
 use crate::findings::{Done, Findings};
 use crate::names::shown;
 use crate::object::Object;
@@ -10,21 +10,20 @@ use serde_json::Value;
 use std::alloc::{AllocError, Global};
 use std::fmt::Display;
 
-/// A kind of object of declarations: the whole of them, or what stands in a member of it.
+/// A kind of object: the whole of declarations, or an item of one of its members.
 #[derive(Clone, Copy, PartialEq, Eq)]
 pub enum Kind {
     Whole,
     Default,
     Group,
     Cron,
-    /// A part of an entry of `cron`, which has the place of that entry.
+    /// A part of an entry of `cron`, with the index of that entry.
     Part,
     Anacron,
     LeftOut,
 }
 
-/// Of each kind the member in which it stands, what its place is called, what it is called, and the
-/// members that it may have.
+/// Of each kind: its member of the whole, the name of its places, its own name, and its members.
 const TEXTS: [[&str; 4]; 7] = [
     [
         "",
@@ -61,27 +60,27 @@ const TEXTS: [[&str; 4]; 7] = [
 ];
 
 impl Kind {
-    /// What is said of it: the member of the whole in which it stands, what its place is called,
-    /// what it is called, and the members that it may have.
+    /// Its member of the whole, the name of its places, its own name, and its members with blanks
+    /// between them.
     pub fn texts(self) -> [&'static str; 4] {
         TEXTS[self as usize]
     }
 }
 
-/// An object of declarations, or what stands in place of one.
+/// An object of declarations, or another value in its place.
 #[derive(Drop)]
 pub struct Entry<'v> {
     pub kind: Kind,
-    /// Its place in its list, counted from 0.
+    /// Its index in its list, from 0.
     pub index: usize,
     pub place: Span,
     pub is_object: bool,
-    /// Its members; none where it's no object.
+    /// Without members if it is no object.
     pub object: Object<'v>,
 }
 
 impl<'v> Entry<'v> {
-    /// That of a value of a text, which stands there.
+    /// The entry of a value, which is at that span of the text. The only error is out of memory.
     pub fn new(
         alloc: Global,
         bytes: &[u8],
@@ -97,7 +96,7 @@ impl<'v> Entry<'v> {
         })
     }
 
-    /// The text that it has in a member, if it's of that kind, and where it stands.
+    /// The text of a member and its place, if the entry is of that kind.
     pub fn text(&self, kind: Kind, member: &str) -> Option<(&'v str, Span)> {
         if self.kind == kind {
             self.object.text(member)
@@ -111,7 +110,7 @@ impl<'v> Entry<'v> {
         self.kind == Kind::Cron || self.kind == Kind::LeftOut
     }
 
-    /// Adds those of the list of that kind that it has; parts have its place in its own list.
+    /// Adds the entries in its list of that kind; parts get its own index.
     pub fn push_list(
         &self,
         alloc: Global,
@@ -140,7 +139,7 @@ impl<'v> Entry<'v> {
     }
 }
 
-/// Adds which entries of a kind have a text in a member that one before them has.
+/// Adds a fault for each entry of a kind whose text in the member an earlier one has.
 pub(crate) fn find_twice(
     findings: &mut Findings,
     bytes: &[u8],
@@ -160,7 +159,7 @@ pub(crate) fn find_twice(
 }
 
 impl Findings {
-    /// Adds a fault of an entry, with its place as the readers of declarations give it.
+    /// Adds a fault of an entry, with its place as the readers of declarations write it.
     pub fn fault_of(
         &mut self,
         entry: &Entry<'_>,
@@ -176,7 +175,7 @@ impl Findings {
         self.fault(span, format_args!("{at}: {why}"))
     }
 
-    /// Adds that something of an entry has an entry before it.
+    /// Adds the fault that something has an earlier entry.
     pub fn twice(&mut self, entry: &Entry<'_>, span: Span, what: impl Display + Drop) -> Done {
         let fault = match entry.kind {
             Kind::Part => DeclFault::BadParts,
@@ -187,7 +186,7 @@ impl Findings {
     }
 }
 
-/// The texts that entries of a kind have in a member, each with the place where it last stands.
+/// The texts of a member in entries of a kind, each with its last place.
 pub fn texts_in<'v>(
     alloc: Global,
     entries: &[Entry<'v>],

@@ -2,13 +2,13 @@ use crate::span::Span;
 use std::alloc::{AllocError, Global};
 use std::fmt::Display;
 
-/// How many findings of one file are told.
+/// The most findings that are printed of one file.
 pub const MAX_TOLD: usize = 100;
 
-/// What a function answers that only wants memory.
+/// The result of a function whose only error is out of memory.
 pub type Done = Result<(), AllocError>;
 
-/// Words, for which memory may be wanting.
+/// Words; the only error is out of memory.
 pub type Words = Result<String, AllocError>;
 
 /// Something in a file that is wrong or odd.
@@ -16,32 +16,32 @@ pub type Words = Result<String, AllocError>;
 pub(crate) struct Finding {
     /// Its line, from 1.
     pub(crate) line: u64,
-    /// The byte of the file at which that line begins.
+    /// The offset of that line in the file.
     pub(crate) start: usize,
-    /// Where it is in that line.
+    /// Its place in that line.
     pub(crate) place: Span,
     /// What it is, in one line.
     pub(crate) words: String,
-    /// The line whose note is told behind it.
+    /// The line whose note follows it.
     pub(crate) about: u64,
 }
 
-/// The first fault of a file, as its reader answers it.
+/// The first fault of a file, as its reader gives it.
 #[derive(Clone, Copy)]
 pub struct FirstFault<'a> {
-    /// Its line, from 1; 0 if it's a fault of the whole file.
+    /// Its line, from 1; 0 for a fault of the whole file.
     pub line: u64,
-    /// The byte of that line at which it begins, from 0.
+    /// Its offset in that line, from 0.
     pub from: usize,
-    /// So many bytes farther it may begin as well.
+    /// It may also begin up to so many bytes later.
     pub more: usize,
     /// Its number and name.
     pub name: &'a str,
 }
 
 impl<'a> FirstFault<'a> {
-    /// That of a line of a table, by its number and column, each from 1: one of a setting may be
-    /// shown at what is wrong in it, of that length, others at their column alone.
+    /// A fault in a line of a table; line and column count from 1. The fault of a setting may be
+    /// shown anywhere in its length, others only at their column.
     pub fn of(
         line: u32,
         column: usize,
@@ -58,16 +58,16 @@ impl<'a> FirstFault<'a> {
     }
 }
 
-/// What is told of a line behind each finding that is about it.
+/// A note on a line, printed after each finding about it.
 #[derive(Drop)]
 pub struct Note {
     /// The number of the line, from 1.
     pub line: u64,
-    /// What is told of it, in one line.
+    /// One line of text.
     pub text: Vec<u8>,
 }
 
-/// How many of some findings stand no later in the file than that byte.
+/// How many findings begin at that offset of the file or before it.
 fn rank(findings: &[Finding], from: usize) -> usize {
     for (at, found) in findings.iter().enumerate() {
         if from < found.start.saturating_add(found.place.from) {
@@ -77,7 +77,7 @@ fn rank(findings: &[Finding], from: usize) -> usize {
     findings.len()
 }
 
-/// Puts a finding at its rank; where as many are kept as are told, the last goes.
+/// Inserts a finding at its rank; if there are [`MAX_TOLD`], the last is dropped.
 fn put(findings: &mut Vec<Finding>, finding: Finding) -> Done {
     if findings.len() >= MAX_TOLD {
         let _last = findings.pop();
@@ -88,7 +88,6 @@ fn put(findings: &mut Vec<Finding>, finding: Finding) -> Done {
     Ok(())
 }
 
-/// Whether words begin with that name and a colon.
 fn is_named(words: &str, name: &str) -> bool {
     match words.strip_prefix(name) {
         Some(rest) => rest.starts_with(':'),
@@ -96,7 +95,7 @@ fn is_named(words: &str, name: &str) -> bool {
     }
 }
 
-/// What to write where a fault of a table as a whole has that number and name.
+/// The advice for faults that no other check explains.
 const ADVICE: [(&str, &str); 7] = [
     (
         "1 TooLong",
@@ -137,13 +136,13 @@ fn advice(name: &str) -> &'static str {
     "see 'cronsafe explain'"
 }
 
-/// What is found in one file. Of it the first [`MAX_TOLD`] are kept, what is wrong before what is
-/// odd and each by place, and the others counted.
+/// Findings in one file. The first [`MAX_TOLD`] are kept, first faults and then oddities, each by
+/// place; the others are counted.
 #[derive(Drop)]
 pub struct Findings {
-    /// What it takes its memory from.
+    /// Where its memory comes from.
     pub alloc: Global,
-    /// The bytes of the file at which its lines begin.
+    /// The offsets of the file's lines.
     starts: Vec<usize>,
     /// What is wrong, by place.
     pub(crate) faults: Vec<Finding>,
@@ -152,13 +151,13 @@ pub struct Findings {
     pub(crate) more: u64,
     /// Whether anything odd was found.
     pub has_oddities: bool,
-    /// The line that what is added from now on is about: nothing where that is the one on which it
-    /// stands, and 0 where it's about none.
+    /// The line that later findings are about, whose note follows them: none for the line of their
+    /// place, 0 for no line.
     pub about: Option<u64>,
 }
 
 impl Findings {
-    /// Nothing yet, of a file that holds this.
+    /// No findings yet, in a file with these bytes.
     pub fn new(alloc: Global, bytes: &[u8]) -> Result<Findings, AllocError> {
         let mut starts = Vec::new(alloc);
         starts.push(0)?;
@@ -178,8 +177,8 @@ impl Findings {
         })
     }
 
-    /// The byte at which that line begins, or the last one where there are fewer; line 0 begins
-    /// where the first does.
+    /// The offset of the line, or of the last one if there are fewer; line 0 begins where line 1
+    /// does.
     pub(crate) fn line_start(&self, line: u64) -> usize {
         let start = self.starts.get(line.saturating_sub(1) as usize);
         start.or(self.starts.last()).copied().unwrap_or(0)
@@ -210,18 +209,18 @@ impl Findings {
         put(&mut self.faults, finding)
     }
 
-    /// Adds something that is wrong.
+    /// Adds something wrong.
     pub fn fault(&mut self, place: Span, words: impl Display + Drop) -> Done {
         self.add(false, place, words)
     }
 
-    /// Adds something that is odd.
+    /// Adds something odd.
     pub fn odd(&mut self, place: Span, words: impl Display + Drop) -> Done {
         self.has_oddities = true;
         self.add(true, place, words)
     }
 
-    /// Whether that fault is told: by its name, and where it is.
+    /// Whether a finding reports the fault: by its name and place.
     pub fn tells(&self, fault: &FirstFault<'_>) -> bool {
         for found in self.faults.iter() {
             let from = found.place.from;
@@ -234,7 +233,7 @@ impl Findings {
         false
     }
 
-    /// Drops each fault that doesn't have that name and place.
+    /// Drops all faults but those of that name and place.
     pub(crate) fn keep_named(&mut self, name: &str) {
         self.more = 0;
         self.faults
@@ -246,14 +245,14 @@ impl Findings {
         !self.faults.is_empty()
     }
 
-    /// Whether as many faults are kept as are told.
+    /// Whether no more faults can be kept.
     pub fn is_full(&self) -> bool {
         self.faults.len() >= MAX_TOLD
     }
 
-    /// Adds a fault at the start of its line, where none was added that tells it.
+    /// Adds a fault, unless a finding reports it.
     pub fn keep(&mut self, fault: &FirstFault<'_>) -> Done
-    // Each fault that was told is told still, unless a hundred were.
+    // Faults that were reported still are, unless there are a hundred.
     {
         if self.tells(fault) {
             return Ok(());
@@ -272,8 +271,7 @@ impl Findings {
         Ok(())
     }
 
-    /// Whether something that is wrong here would be told, by what was added so far; else counts
-    /// it.
+    /// Whether a fault at this place would be kept, as far as is known; else counts it.
     pub fn takes_fault(&mut self, place: Span) -> bool {
         let takes = rank(self.faults.as_slice(), place.from) < MAX_TOLD;
         if !takes {

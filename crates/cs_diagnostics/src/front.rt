@@ -1,5 +1,4 @@
-//! The parts of a line that stand in front of its command: what each is called, and what is wrong
-//! with one.
+//! The parts of a line before its command, and their faults.
 use crate::findings::Words;
 use crate::line::is_hashed;
 use crate::names::{meant, shown};
@@ -10,19 +9,19 @@ use cs_schedule::Part;
 use cs_table::text::is_among;
 use std::alloc::{AllocError, Global};
 
-/// The words that may stand behind `@` (`crontab(5)`).
+/// The words after `@` (`crontab(5)`).
 const WORDS: &str = "@reboot @yearly @annually @monthly @weekly @daily @midnight @hourly";
 
 const EVERY: &str =
     "robfig/cron has @every: write five fields, such as `*/5 * * * *` for `@every 5m`";
 
-/// What to write where an item of a day stands as the month.
+/// The advice where an item of a day stands in the month.
 const FIVE: &str = "five fields, without the seconds in front";
 
-/// The words that may stand in place of a period (`anacrontab(5)`).
+/// The words for a period (`anacrontab(5)`).
 const PERIODS: &str = "@daily @weekly @monthly";
 
-/// Which table it is.
+/// The kind of a table.
 #[derive(Clone, Copy)]
 pub enum TableKind {
     /// A user's table of cron.
@@ -31,7 +30,7 @@ pub enum TableKind {
     Anacrontab,
 }
 
-/// A part of a line that stands in front of its command.
+/// A part of a line before its command.
 #[derive(Clone, Copy)]
 pub(crate) enum Front {
     /// A word in place of fields.
@@ -43,7 +42,7 @@ pub(crate) enum Front {
     Identifier,
 }
 
-/// A part, and what it's called.
+/// A part and its name.
 pub(crate) type Named = (Front, &'static str);
 
 static WORD: [Named; 1] = [(Front::Word, "word")];
@@ -62,11 +61,11 @@ static JOB: [Named; 3] = [
     (Front::Identifier, "identifier"),
 ];
 
-/// A fault as its reader names it, and why it is one.
+/// The reader's name of a fault, and the reason.
 type Wrong = (&'static str, String);
 
 impl Front {
-    /// Those of a line of a table, whose first word may begin with `@`.
+    /// The parts of a line; `is_word` says whether it begins with `@`.
     pub(crate) fn all(kind: TableKind, is_word: bool) -> &'static [Named] {
         match kind {
             TableKind::Crontab if is_word => WORD.as_slice(),
@@ -75,8 +74,8 @@ impl Front {
         }
     }
 
-    /// What is wrong with it, which is called that, or with one of its items, if anything is. Of an
-    /// item it's given whether nothing is wrong with those before it.
+    /// The fault of the part, or of an item of it; `is_first` says whether the items before it have
+    /// none.
     pub(crate) fn wrong(
         self,
         alloc: Global,
@@ -146,8 +145,8 @@ fn item_words(
     }
 }
 
-/// Which other program has an item of that form, and what to write: the range of the field where
-/// nothing is said.
+/// Which other program has such an item, and what to write; an empty text stands for the range of
+/// the field.
 fn form_of(part: Part, item: &[u8]) -> (&'static str, &'static str) {
     let first = item.first().copied().unwrap_or(0);
     let behind = item.get(1).copied().unwrap_or(b'-');
@@ -185,8 +184,8 @@ fn form_of(part: Part, item: &[u8]) -> (&'static str, &'static str) {
     }
 }
 
-/// What Debian's cron takes an item for that is none here: it skips the rest of a field behind the
-/// first byte that is no part of an item.
+/// What Debian's cron reads such an item as: it skips the rest of a field after the first byte that
+/// can't be in an item.
 fn other_words(alloc: Global, part: Part, item: &[u8]) -> Words {
     for (at, byte) in item.iter().enumerate() {
         if !byte.is_ascii_alphanumeric() && !b"*-/".contains(byte) {

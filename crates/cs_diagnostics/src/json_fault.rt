@@ -1,4 +1,4 @@
-//! Why a text is no JSON, and where.
+//! Why a text is not JSON, and where.
 use crate::findings::{Done, Findings};
 use crate::outline::trimmed;
 use crate::span::Span;

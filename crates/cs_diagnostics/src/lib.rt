@@ -1,5 +1,4 @@
-//! What is found in files: words about a place, and the text that shows both; and where the parts
-//! of a JSON text stand.
+//! Collects findings in files and prints them with their lines; locates the parts of JSON texts.
 #![tactic(auto)]
 
 mod declared;

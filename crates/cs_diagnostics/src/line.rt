@@ -2,7 +2,7 @@
 use crate::span::Span;
 use cs_table::text::{is_among, skip_blanks, word};
 
-/// The next word from one of its bytes on; nothing at its end where there is none.
+/// The next word from an offset on; empty at the end of the line.
 pub fn word_from(line: &[u8], from: usize) -> Span {
     let (found, rest) = word(skip_blanks(&line[from.min(line.len())..]));
     let behind = found.len().saturating_add(rest.len());
@@ -18,17 +18,17 @@ pub fn word_after(line: &[u8], others: usize) -> Span {
     found
 }
 
-/// From the first of two words of a line to the end of the second, both counted from 0.
+/// From one word of a line to the end of another, counted from 0.
 pub fn words(line: &[u8], first: usize, last: usize) -> Span {
     Span::between(word_after(line, first).from, word_after(line, last).to)
 }
 
-/// Whether a word such as `@daily` stands at the front of a line, in place of fields.
+/// Whether the line begins with a word such as `@daily` in place of fields.
 pub fn is_word_line(line: &[u8]) -> bool {
     word_from(line, 0).bytes(line).starts_with(b"@".as_slice())
 }
 
-/// The first of these bytes from one byte on; the end where there is none.
+/// The offset of the first of these bytes; the end if there is none.
 fn first_of(bytes: &[u8], line: &[u8], from: usize) -> usize {
     let rest = &line[from.min(line.len())..];
     for (at, byte) in rest.iter().enumerate() {
@@ -39,7 +39,7 @@ fn first_of(bytes: &[u8], line: &[u8], from: usize) -> usize {
     line.len()
 }
 
-/// The byte behind the quote that closes the one there.
+/// The offset after the quote that closes the one at `from`.
 fn behind_quotes(line: &[u8], from: usize) -> Option<usize> {
     let quote = line.get(from).copied().unwrap_or(b'"');
     let end = first_of(&[quote], line, from.saturating_add(1));

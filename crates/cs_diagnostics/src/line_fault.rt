@@ -1,4 +1,4 @@
-//! What is wrong with a line of a table that can't be read.
+//! The faults of a line of a table that can't be read.
 use crate::findings::{Done, Findings, FirstFault};
 use crate::front::{Front, TableKind};
 use crate::line::{bad_setting, is_word_line, word_from};
@@ -14,17 +14,17 @@ use std::fmt::Display;
 /// The byte order mark of UTF-8, with which some editors begin a file.
 const MARK: &[u8] = b"\xef\xbb\xbf";
 
-/// What is called the command of a line.
+/// The name of a line's command.
 pub const COMMAND: &str = "command";
 
 /// A line of a table.
 #[derive(Clone, Copy)]
 pub struct TableLine<'a> {
-    /// Which table it is.
+    /// The kind of its table.
     pub kind: TableKind,
     /// The line, without its newline.
     pub text: &'a [u8],
-    /// The byte of the table at which it begins.
+    /// The line's offset in the table.
     pub start: usize,
 }
 
@@ -83,7 +83,7 @@ impl TableLine<'_> {
         Ok(())
     }
 
-    /// Adds what is wrong with it, whose first fault this is.
+    /// Adds all faults of a line whose reader gives this first one.
     pub fn find_fault(self, findings: &mut Findings, fault: &FirstFault<'_>) -> Done {
         let (line, place) = (self.text, Span::of(fault.from, 1));
         if fault.name == LineFault::BadSetting.text() {
@@ -109,7 +109,7 @@ impl TableLine<'_> {
     }
 }
 
-/// The byte at which the text of a crontab begins: behind a byte order mark, which is a fault.
+/// The offset of a crontab's text: after a byte order mark, which is a fault.
 pub fn find_mark(findings: &mut Findings, bytes: &[u8]) -> Result<usize, AllocError> {
     if !bytes.starts_with(MARK) {
         return Ok(0);
@@ -120,9 +120,8 @@ pub fn find_mark(findings: &mut Findings, bytes: &[u8]) -> Result<usize, AllocEr
     Ok(MARK.len())
 }
 
-/// What [`Findings::tell`] prints of the first fault of a table, as its reader answers it, behind a
-/// newline and without the last one: in a gathered table also where its line comes from. The only
-/// error is want of memory.
+/// What [`Findings::tell`] prints of the first fault of a table, after a newline and without the
+/// last one; of a gathered table also where its line comes from. The only error is out of memory.
 pub fn table_lines(
     alloc: Global,
     file: &File<'_>,

@@ -1,24 +1,24 @@
-//! Names in words: how one is shown, and which of some may be meant by another.
+//! Names in words: how one is shown, and which one may be meant by another.
 use crate::findings::Words;
 use std::alloc::{AllocError, Global};
 use strsim::levenshtein;
 
-/// The bytes of a name that are shown at most.
+/// The most bytes of a name that are shown.
 const MAX_SHOWN: usize = 60;
 
-/// The bytes of the longest name that is compared.
+/// The longest name that is compared, in bytes.
 const MAX_COMPARED: usize = 24;
 
-/// The most edits that may lead from a name to the one that is meant.
+/// The most edits between a name and the one that may be meant.
 const MAX_EDITS: usize = 3;
 
-/// Whether a terminal may take the byte for a command: a control byte other than a tab.
+/// Whether a terminal may obey the byte: a control byte other than a tab.
 pub(crate) fn is_control(byte: u8) -> bool {
     byte < b' ' && byte != b'\t' || byte == 0x7f
 }
 
-/// A name of a file in words: with `?` for each control byte, as a newline, and cut behind 60
-/// bytes, which `...` shows. The only error is want of memory.
+/// A name as a terminal may show it: with `?` for each control byte, and `...` after 60 bytes. The
+/// only error is out of memory.
 pub fn shown(alloc: Global, name: &[u8]) -> Words {
     let front = &name[..name.len().min(MAX_SHOWN)];
     let mut clean = Vec::new(alloc);
@@ -32,15 +32,14 @@ pub fn shown(alloc: Global, name: &[u8]) -> Words {
     String::from_utf8_lossy(alloc, clean.as_slice())
 }
 
-/// A name of a file in double quotes, as [`shown`]. The only error is want of memory.
+/// [`shown`] in double quotes. The only error is out of memory.
 pub fn quoted(alloc: Global, name: &str) -> Words {
     let text = shown(alloc, name.as_bytes())?;
     format!(in alloc; "\"{text}\"")
 }
 
-/// The name that may be meant by another: the first of those to which the fewest edits lead, where
-/// these are at most three and at most half as many as its letters. The only error is want of
-/// memory.
+/// The known name that may be meant: the first with the fewest edits, at most three and at most
+/// half as many as its bytes. The only error is out of memory.
 pub fn nearest<'n>(
     alloc: Global,
     name: &str,
@@ -60,8 +59,8 @@ pub fn nearest<'n>(
     Ok(best)
 }
 
-/// `did you mean NAME?` where one of the known names may be meant, else the given words and all the
-/// known names, which blanks separate. The only error is want of memory.
+/// `did you mean NAME?` if a known name may be meant; else `otherwise` and all of them. Blanks
+/// separate the known names. The only error is out of memory.
 pub fn meant(alloc: Global, name: &str, quote: &str, known: &str, otherwise: &str) -> Words {
     let known = known.split_whitespace().collect::<Vec<&str>>(alloc)?;
     if let Some(near) = nearest(alloc, name, known.as_slice())? {

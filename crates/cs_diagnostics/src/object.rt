@@ -7,15 +7,15 @@ use std::alloc::{AllocError, Global};
 /// An object of a JSON text.
 #[derive(Drop)]
 pub struct Object<'v> {
-    /// Its first byte, which is its bracket.
+    /// Its first byte, the bracket.
     pub bracket: Span,
-    /// Its members in their order, each with its name.
+    /// Its members in their order, with their names.
     pub members: Vec<(String, Part)>,
     value: &'v Value,
 }
 
 impl<'v> Object<'v> {
-    /// The object at a span of a text, which is that value. The only error is want of memory.
+    /// The object at a span of a text, whose value is given. The only error is out of memory.
     pub fn new(
         alloc: Global,
         bytes: &[u8],
@@ -39,7 +39,7 @@ impl<'v> Object<'v> {
         self.member(name).is_some()
     }
 
-    /// The value of the last member of that name, which is the one that counts, and its place.
+    /// The last member of that name, which is the one that counts, and its place.
     pub fn member(&self, name: &str) -> Option<(&'v Value, Span)> {
         for (own, part) in self.members.iter().rev() {
             if own.as_str() == name {
@@ -49,13 +49,13 @@ impl<'v> Object<'v> {
         None
     }
 
-    /// The text that a member is, if it's there and is one, and where it stands.
+    /// The member's text and place, if it is a text.
     pub fn text(&self, name: &str) -> Option<(&'v str, Span)> {
         let (value, span) = self.member(name)?;
         Some((value.as_str()?, span))
     }
 
-    /// The whole number that a member is, if it's there and is one, and where it stands.
+    /// The member's whole number and place, if it is one.
     pub fn whole(&self, name: &str) -> Option<(i128, Span)> {
         let (value, span) = self.member(name)?;
         Some((value.as_number()?.as_i128()?, span))

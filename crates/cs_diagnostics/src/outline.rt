@@ -1,10 +1,10 @@
-//! Where the parts of a JSON text stand. The text is one that `serde_json` reads; of any other text
-//! these give some places or other.
+//! The places of the parts of a JSON text. The text is one that `serde_json` reads; the places in
+//! any other text have no meaning.
 use crate::span::Span;
 use serde_json::{Error, Value};
 use std::alloc::{AllocError, Global};
 
-/// The JSON value of a text, or why it's none. The only error is want of memory.
+/// The JSON value of a text, or why it has none. The only error is out of memory.
 pub fn parsed(alloc: Global, bytes: &[u8]) -> Result<Result<Value, Error>, AllocError> {
     match Value::from_slice(alloc, bytes) {
         Err(error) if error.is_memory() => Err(AllocError),
@@ -12,7 +12,7 @@ pub fn parsed(alloc: Global, bytes: &[u8]) -> Result<Result<Value, Error>, Alloc
     }
 }
 
-/// The span without the bytes at its ends that JSON takes for blanks.
+/// The span without JSON's blanks at its ends.
 pub fn trimmed(bytes: &[u8], span: Span) -> Span {
     let (mut from, mut to) = (0usize, 0usize);
     for (at, byte) in span.bytes(bytes).iter().enumerate() {
@@ -24,19 +24,19 @@ pub fn trimmed(bytes: &[u8], span: Span) -> Span {
     Span::between(from, to).behind(span.from)
 }
 
-/// What a scan of a JSON text knows of the byte that comes next.
+/// What a scan of a JSON text knows before the next byte.
 #[derive(Drop)]
 struct Scan {
-    /// How many objects and lists it stands in.
+    /// How many objects and lists are open.
     depth: usize,
     in_text: bool,
-    /// Whether a backslash stands in front of it in a text.
+    /// Whether a backslash in a text precedes the byte.
     is_escaped: bool,
 }
 
 impl Scan {
-    /// Goes past a byte, and tells whether a name or a part of the outermost object or list ends in
-    /// front of it.
+    /// Passes a byte; returns whether a name or a part of the outermost object or list ends before
+    /// it.
     fn pass(&mut self, byte: u8) -> bool {
         if self.in_text {
             self.in_text = self.is_escaped || byte != b'"';
@@ -60,13 +60,13 @@ impl Scan {
 /// A member of an object or an item of a list.
 #[derive(Clone, Copy)]
 pub struct Part {
-    /// Where its name stands: nothing in front of an item.
+    /// The place of its name; empty for an item.
     pub name: Span,
-    /// Where its value stands.
+    /// The place of its value.
     pub value: Span,
 }
 
-/// The members of the object, or the items of the list, that the span is. The only error is want of
+/// The members of the object, or the items of the list, at the span. The only error is out of
 /// memory.
 pub fn parts(alloc: Global, bytes: &[u8], span: Span) -> Result<Vec<Part>, AllocError> {
     let mut parts = Vec::new(alloc);

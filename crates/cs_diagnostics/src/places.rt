@@ -1,12 +1,12 @@
-//! Where the lines of a gathered table come from, and what is said of them.
+//! Where the lines of a gathered table come from.
 use crate::findings::Note;
 use cs_crontab::{Entry, read_line};
 use cs_place::{Place, is_mark_name, push_place_text, push_places};
 use cs_table::MAX_TABLE;
 use std::alloc::{AllocError, Global};
 
-/// The places of the lines of a table, as its comments give them, if it's gathered; one with a fault
-/// too, if one of the lines that can be read sets the mark.
+/// The places that the comments of a gathered table give. The table may have a fault, if the line
+/// with the mark can be read. The only error is out of memory.
 pub fn places_in(alloc: Global, bytes: &[u8]) -> Result<Vec<Place>, AllocError> {
     let mut places = Vec::new(alloc);
     if bytes.len() > MAX_TABLE {
@@ -24,7 +24,7 @@ pub fn places_in(alloc: Global, bytes: &[u8]) -> Result<Vec<Place>, AllocError> 
     Ok(places)
 }
 
-/// What is said of the lines that have places: `line 14 is /etc/cron.d/munin:12 (munin)`.
+/// Notes such as `line 14 is /etc/cron.d/munin:12 (munin)`. The only error is out of memory.
 pub fn notes_on(alloc: Global, places: &[Place]) -> Result<Vec<Note>, AllocError> {
     let mut notes = Vec::new(alloc);
     for place in places.iter() {

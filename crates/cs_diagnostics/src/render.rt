@@ -1,27 +1,26 @@
-//! How findings are told: the place and the words, the line, and a mark under the place.
+//! The text of findings: the place and the words, the line, and a mark under the place.
 
 use crate::findings::{Done, Finding, Findings, MAX_TOLD, Note};
 use crate::names::is_control;
 use crate::span::Span;
 use std::alloc::{AllocError, Global};
 
-/// The bytes of a line that are shown in front of a place at most.
+/// The most bytes of a line that are shown before a place.
 const IN_FRONT: usize = 100;
 
-/// The bytes of a line that are shown at most.
+/// The most bytes of a line that are shown.
 const SHOWN: usize = 160;
 
-/// A file that is looked at.
+/// A file that is checked.
 #[derive(Clone, Copy)]
 pub struct File<'a> {
-    /// Its path, as the caller names it: `-` is standard input.
+    /// Its path; `-` is standard input.
     pub path: &'a str,
-    /// What it holds.
+    /// Its content.
     pub bytes: &'a [u8],
 }
 
-/// The part of a line that is shown, by the bytes of the file where the line begins and where the
-/// place does.
+/// The part of a line that is shown, by the file's offsets of the line and of the place.
 fn shown(bytes: &[u8], start: usize, place: usize) -> Span {
     let mut from = start;
     if place.saturating_sub(start) > IN_FRONT {
@@ -39,7 +38,7 @@ fn goes_on(byte: u8) -> bool {
     0x80 <= byte && byte < 0xc0
 }
 
-/// Adds what stands under the letters of a text: for each a tab or this byte.
+/// Adds a tab or the mark for each letter of the text above.
 fn add_below(text: &mut Vec<u8>, letters: &[u8], mark: u8) -> Done {
     for byte in letters.iter().filter(|byte| !goes_on(**byte)) {
         let is_tab = mark == b' ' && *byte == b'\t';
@@ -48,7 +47,7 @@ fn add_below(text: &mut Vec<u8>, letters: &[u8], mark: u8) -> Done {
     Ok(())
 }
 
-/// The line of a finding, or a part of it round the place, and a mark under the place.
+/// The line of a finding, or a part of it around the place, and a mark under the place.
 fn marked(alloc: Global, bytes: &[u8], finding: &Finding) -> Result<Vec<u8>, AllocError> {
     let place = finding.place.behind(finding.start);
     let from = place.from.min(bytes.len());
@@ -71,7 +70,6 @@ fn marked(alloc: Global, bytes: &[u8], finding: &Finding) -> Result<Vec<u8>, All
     Ok(text)
 }
 
-/// Adds the note of a line, a line, if it has one.
 fn add_note(text: &mut Vec<u8>, notes: &[Note], line: u64) -> Done {
     for note in notes {
         if note.line == line {
@@ -83,7 +81,7 @@ fn add_note(text: &mut Vec<u8>, notes: &[Note], line: u64) -> Done {
     Ok(())
 }
 
-/// Adds what is told of each of some findings of a file of that name, which are faults or odd.
+/// Adds findings of a file of that name; `what` is `fault` or `odd`.
 fn add_findings(
     alloc: Global,
     text: &mut Vec<u8>,
@@ -105,15 +103,15 @@ fn add_findings(
 }
 
 impl Findings {
-    /// Adds what is told of the findings of a file: what is wrong, then what is odd, each by place.
+    /// Adds the findings of a file: faults, then oddities, each by place.
     ///
-    /// Of each a line `FILE:LINE:COLUMN: fault: WORDS` or `FILE:LINE:COLUMN: odd: WORDS`, lines and
-    /// columns counted from 1, columns in bytes; then the line of the place, a control byte other
-    /// than a tab as `?`; then `^` and a `~` for each further letter of the place under it. Of a
-    /// line of more than 160 bytes a part round the place is shown, with `...` for what isn't. Last
-    /// comes the note of the line that it is about, if there is one, behind two blanks. Behind
-    /// [`MAX_TOLD`](crate::MAX_TOLD) of them stands `FILE: and N more`. The only error is want of
-    /// memory.
+    /// Each begins with a line `FILE:LINE:COLUMN: fault: WORDS` or `FILE:LINE:COLUMN: odd: WORDS`;
+    /// lines and columns count from 1, columns in bytes. Then comes the line of the place, with `?`
+    /// for a control byte other than a tab, and under the place `^` and a `~` for each further
+    /// letter. Of a line of more than 160 bytes a part around the place is shown, with `...` for
+    /// the rest. The note of the line that the finding is about follows after two blanks. After
+    /// [`MAX_TOLD`](crate::MAX_TOLD) findings `FILE: and N more` ends the text. The only error is
+    /// out of memory.
     pub fn tell(&self, file: &File<'_>, notes: &[Note], text: &mut Vec<u8>) -> Done {
         let (alloc, faults) = (self.alloc, self.faults.as_slice());
         let name = if file.path == "-" {

@@ -1,5 +1,4 @@
-//! What each object of declarations holds: its members, their values and the ranges of their
-//! numbers.
+//! The members of each object of declarations, their values and ranges.
 use crate::entry::{Entry, Kind};
 use crate::findings::{Done, Findings};
 use crate::names::{meant, nearest, quoted};
@@ -12,11 +11,10 @@ use indexmap::IndexSet;
 use serde_json::Value;
 use std::alloc::{AllocError, Global};
 
-/// How many members are compared with the name of one that is lacking.
+/// How many members are compared with the name of a missing one.
 const MAX_LOOKED_AT: usize = 100;
 
-/// Whether the whole has a member of that name, or one that may be meant to be it. The only error
-/// is out of memory.
+/// Whether the whole has a member of that name, or a misspelt one. The only error is out of memory.
 pub fn has_meant(alloc: Global, whole: &Object<'_>, name: &str) -> Result<bool, AllocError> {
     let [.., known] = Kind::Whole.texts();
     let known = known.split_whitespace().collect::<Vec<&str>>(alloc)?;
@@ -28,13 +26,12 @@ pub fn has_meant(alloc: Global, whole: &Object<'_>, name: &str) -> Result<bool, 
     Ok(false)
 }
 
-/// A whole number, as declarations take one.
 fn whole(value: &Value) -> Option<i128> {
     value.as_number()?.as_i128()
 }
 
-/// Whether these are two minutes of a day, the first before the last; none where they aren't two
-/// whole numbers.
+/// Whether these are two minutes of a day, the first before the last; none if they aren't two whole
+/// numbers.
 fn are_hours(value: &Value) -> Option<bool> {
     let [first, last] = value.as_array()?.as_slice() else {
         return None;
@@ -53,8 +50,7 @@ const MODE: &str = "one of \"none\", \"skip\", \"try\", \"wait\" and \"shared\""
 
 const MODES: &str = "none skip try wait shared";
 
-/// Whether a text stands for five fields of a line, or its word, as the readers of declarations take
-/// one.
+/// Whether the text is five fields of a line, or its word, as the readers of declarations take one.
 fn is_when(alloc: Global, text: &str) -> Result<bool, AllocError> {
     let mut line = Vec::from_slice(alloc, text.as_bytes())?;
     line.extend_from_slice(b" x".as_slice())?;
@@ -64,7 +60,6 @@ fn is_when(alloc: Global, text: &str) -> Result<bool, AllocError> {
     }
 }
 
-/// Adds what is wrong with the value of a member of that name.
 fn find_in_value(
     findings: &mut Findings,
     entry: &Entry<'_>,
@@ -109,7 +104,8 @@ fn is_among(names: &str, name: &str) -> bool {
     false
 }
 
-/// Adds that a name is what is said of it, for none of those that are known.
+/// Adds the fault that a name isn't among the known ones. `says` are what it is, the known names,
+/// and the words before them.
 fn find_none(findings: &mut Findings, span: Span, name: &str, says: (&str, &str, &str)) -> Done {
     if !findings.takes_fault(span) {
         return Ok(());
@@ -164,7 +160,7 @@ fn find_lacking(findings: &mut Findings, entry: &Entry<'_>) -> Done {
     Ok(())
 }
 
-/// Adds what is wrong with an object by itself and with each of its members, or that it's none.
+/// Adds the faults of an object and of its members.
 pub(crate) fn find_in_entry(findings: &mut Findings, entry: &Entry<'_>) -> Done {
     if !entry.is_object {
         let [_, _, called, _] = entry.kind.texts();
@@ -181,7 +177,7 @@ pub(crate) fn find_in_entry(findings: &mut Findings, entry: &Entry<'_>) -> Done 
     find_lacking(findings, entry)
 }
 
-/// Adds what is wrong with a member, of which that name stands there.
+/// Adds the fault of a member whose name is at that place.
 fn find_in_member(findings: &mut Findings, entry: &Entry<'_>, name: &str, span: Span) -> Done {
     let [.., known] = entry.kind.texts();
     if entry.kind == Kind::Anacron && name == "mode" {

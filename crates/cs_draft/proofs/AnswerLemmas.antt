@@ -1,4 +1,3 @@
--- Old declarations that were read.
 use Rattle.std.proofs.Common.{◌≡◌, ◌⊎◌, ◌≤◌, ℕ, true, List, Option, Some, None, IfSome, Ok, Err, inl, inr, length, refl, subst}
 use Rattle.cs_decl.specs.Meaning.{declared_by}
 use Rattle.cs_decl.specs.declared.entries.Entries.{Entries}
@@ -10,14 +9,12 @@ use Rattle.cs_files.specs.Trouble.{TellsPath, Trouble, trouble}
 use Rattle.cs_files.specs.declared.fault.Fault.{Fault}
 use Rattle.cs_draft.specs.Answer.{ReadsOld, ReadsText}
 
--- what was read of declarations is what the file declares
 declared : (d : Entries) (bytes : List ℕ) (whole left : Option (List ℕ)) → IfSome whole (λ text. left ≡ Some text) → IfSome left (λ text. bytes ≡ text) → declared_by bytes ≡ Ok d → IfSome whole (λ text. declared_by text ≡ Ok d)
 declared d bytes None left fresh read is = fresh
 declared d bytes (Some text) left fresh read is =
     let e : bytes ≡ text = subst (λ o. IfSome o (λ t. bytes ≡ t)) fresh read in
     subst (λ b. declared_by b ≡ Ok d) e is
 
--- old declarations that were read
 pub old_read : (files left : List ℕ → Option (List ℕ)) (path : Text) (bytes : List ℕ) (old : Entries) (before after : Failed)
     → after ≡ before → IsFresh files left → IfSome (left path) (λ text. bytes ≡ text) → declared_by bytes ≡ Ok old → ReadsOld files (Some path) before after (Ok (Some old))
 old_read files left path bytes old before after works fresh read is =
@@ -27,7 +24,6 @@ too_long : (whole rest : Option (List ℕ)) → IfSome whole (λ text. rest ≡ 
 too_long None rest same long = same
 too_long (Some text) rest same long = subst (λ o. IfSome o (λ t. MOST_READS ≤ length t)) same long
 
--- and those that could not be read, or not to their end
 pub old_unread : (files left : List ℕ → Option (List ℕ)) (path : Text) (before after : Failed) (old new : Reads) (e : Fault)
     → IsFresh files left → IsUnreadWhole path left before after old new e → IfSome (trouble e) (λ t. ReadsOld files (Some path) before after (Err t))
 old_unread files left path before after old new e fresh = by_trouble (trouble e)
@@ -38,7 +34,6 @@ old_unread files left path before after old new e fresh = by_trouble (trouble e)
     by_trouble (Some t) (is, inl failed) = inl (t, inl (inl (failed, is)), refl)
     by_trouble (Some t) (is, inr (same, out, long)) = inl (t, inr (same, too_long (files path) (left path) (fresh path) long, (t, is, refl)), refl)
 
--- a text that was read, and one that could not be
 same_text : (bytes : List ℕ) (whole left : Option (List ℕ)) → IfSome whole (λ text. left ≡ Some text) → IfSome left (λ text. bytes ≡ text) → IfSome whole (λ text. bytes ≡ text)
 same_text bytes None left fresh read = fresh
 same_text bytes (Some text) left fresh read = subst (λ o. IfSome o (λ t. bytes ≡ t)) fresh read

@@ -1,4 +1,3 @@
--- Due minutes that are apart are so by less too.
 use Rattle.std.proofs.Common.{ℕ, ◌≤◌, arith}
 use Rattle.cs_schedule.specs.Times.{Times}
 use Rattle.cs_schedule.specs.Gap.{AreApart}

@@ -1,4 +1,3 @@
--- What the answer of a join says of declarations.
 use Rattle.std.proofs.Common.{◌≡◌, IfOk, IsTrue, Bool, None, Result, Ok, Err}
 use Rattle.cs_crontab.specs.Crontab.{Table as Crontab}
 use Rattle.cs_anacrontab.specs.Anacrontab.{Table as Anacrontab}
@@ -12,7 +11,7 @@ pub plan_fits : (crontab : Crontab) (anacrontab : Anacrontab) (d : Entries) (pla
 unfolding joined
 plan_fits crontab anacrontab d plan h = (no_fault _ plan _ h).0
 
--- what holds where it fits
+-- implications pass through
 pub fitting : {E P Q : Type 0} (r : Result Bool E) → (P → Q) → IfOk r (λ b. IsTrue b → P) → IfOk r (λ b. IsTrue b → Q)
 fitting (Ok b) f h = λ yes. f (h yes)
 fitting (Err e) f h = tt

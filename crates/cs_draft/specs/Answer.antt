@@ -1,4 +1,4 @@
--- What is answered to `draft`.
+-- The answer to `draft`.
 use Rattle.std.specs.Prelude.{◌≡◌, ◌⊎◌, ℕ, ℤ, Bool, true, false, List, [], All, Option, Some, None}
 use Rattle.std.specs.Prelude.{option_map, IfSome, Result, Ok, Err}
 use Rattle.std.specs.Result.{result_map_both}
@@ -20,32 +20,31 @@ use Rattle.cs_retrace.specs.Maxes.{given_in, has_job}
 use Rattle.cs_retrace.specs.declared.maxes.Given.{Given}
 use Rattle.cs_draft.specs.declared.answer.Draftable.{Draftable}
 
--- such a text is printed; or that there is none, with status 2
+-- the text is printed, or none is, with status 2
 abbrev pub IsPrinted : (List ℕ → Type 0) → Ending → Type 0
 IsPrinted Is ending =
     ((ending.status ≡ 0) × Is ending.out) ⊎ ((ending.status ≡ 2) × (ending.out ≡ []))
 
--- so is an update of old declarations with these longest times, and standard error warns of the locks
--- that what is new lacks
+-- the same of an update of old declarations with these longest times, with warnings on standard
+-- error
 abbrev pub PrintsUpdate : Table → JobTable → List Place → Entries → ℕ → List Given → Ending → Type 0
 PrintsUpdate table jobs places old max given ending = IsPrinted
     (λ out. IsUpdate table jobs places old max given out × Warn table jobs old out ending.err) ending
 
--- the declarations that are updated; a draft, at an offset, updates nothing
+-- the declarations that are updated; a draft updates `nothing`
 abbrev pub updated : ℤ → Option Entries → Entries
 updated offset None = nothing offset
 updated offset (Some old) = old
 
--- a fault is told, and no text
 abbrev pub IsRefused : Ending → Type 0
 IsRefused ending = (ending.status ≡ 3) × (ending.out ≡ [])
 
--- a longest time is given for a job of the tables
+-- the tables have the job of this longest time
 abbrev pub IsOfTables : List CommandLine → List JobLine → Given → Type 0
 IsOfTables lines jobs g = has_job lines jobs g.name ≡ true
 
--- It is printed with the longest times that a text gives. A text with a fault is refused, and so is
--- one that gives a longest time to a job that the tables don't have.
+-- A text of longest times that has a fault, or that names a job which the tables don't have, is
+-- refused.
 abbrev pub PrintsTimed : Table → JobTable → List Place → Entries → ℕ → Option (List Given) → Ending
     → Type 0
 PrintsTimed table jobs places old max None ending = IsRefused ending
@@ -54,18 +53,16 @@ PrintsTimed table jobs places old max (Some given) ending =
     ⊎ (All (IsOfTables table.lines jobs.lines) given
     × PrintsUpdate table jobs places old max given ending)
 
--- and so of what was read
 abbrev pub PrintsDraft : ℕ → ℤ → Draftable → Ending → Type 0
 PrintsDraft max offset x = PrintsTimed x.tables.crontab x.tables.jobs x.tables.places
     (updated offset (option_map (λ p. p.0) x.old)) max (given_in x.maxes)
 
--- the declarations to update, if there are some
 abbrev pub ReadsOld : (List ℕ → Option (List ℕ)) → Option Text → Failed → Failed
     → Result (Option Entries) Trouble → Type 0
 ReadsOld files None = Gives (Ok None)
 ReadsOld files (Some path) = AndThen (ReadsEntries files path) (λ old. Gives (Ok (Some old)))
 
--- the text at a path, an empty one where there is none
+-- the text at a path; an empty one without a path
 abbrev pub ReadsText : (List ℕ → Option (List ℕ)) → Option Text → Failed → Failed
     → Result (List ℕ) Trouble → Type 0
 ReadsText files None before after r = (after ≡ before) × (r ≡ Ok [])
@@ -74,8 +71,8 @@ ReadsText files (Some path) before after (Ok text) =
 ReadsText files (Some path) before after (Err t) =
     TellsPath path t × ((after path ≡ true) ⊎ ((after ≡ before) × IsTooLong path files))
 
--- both tables, the old declarations and then the longest times; a longest time that no job may declare
--- ends the call before a file is read
+-- Reads the tables, the old declarations and the longest times, in this order. An impossible --max
+-- ends the call before a file is read.
 abbrev pub FindsBy : Bool → AskedDraft → (List ℕ → Option (List ℕ)) → List ℕ → Failed → Failed
     → Result Draftable Trouble → Type 0
 FindsBy false a files w before after r =
@@ -89,11 +86,11 @@ abbrev pub FindsDraftable : AskedDraft → (List ℕ → Option (List ℕ)) → 
     → Result Draftable Trouble → Type 0
 FindsDraftable a = FindsBy (is_possible_max a.max) a
 
--- what is answered to `draft`: that, or the first fault of the words and the files
+-- the draft is printed, or the first fault of the words and the files
 abbrev pub AnswersDraft : AskedDraft → ℤ → (List ℕ → Option (List ℕ)) → List ℕ → Failed → Failed
     → Ending → Type 0
 AnswersDraft a offset files w = Answers (FindsDraftable a files w) (PrintsDraft a.max offset)
 
--- old declarations, without their bytes
+-- without the bytes
 abbrev pub entries_in : {X E : Type 0} → Result (Option (Entries × X)) E → Result (Option Entries) E
 entries_in found = result_map_both (option_map (λ p. p.0)) (λ e. e) found

@@ -1,4 +1,4 @@
--- What is drawn up: declarations that join with the tables, and that keep what older ones declare.
+-- A draft joins with the tables, and keeps what old declarations say.
 use Rattle.std.specs.Prelude.{◌≡◌, ◌≢◌, ◌⊎◌, ◌++◌, ◌≤◌, ◌+◌, ◌-◌, ◌^◌, min, max as nat_max, ℕ, ℤ, pos, List, [], ◌∷◌, All, codes, count_by, decimal, filter, find, length, map, take, drop, Bool, true, false, not, ◌==◌, ◌&&◌, ◌||◌, nat_le, nat_lt, bytes_eq, if◌then◌else◌, Option, None, Some, is_none, is_some, option_and_then, option_map, unwrap_or, IfSome, IsSomeAnd, IsUtf8, Ok}
 use Rattle.std.specs.Ordering.{int_eq}
 use Rattle.std.specs.List.{list_all, list_any}
@@ -37,12 +37,12 @@ use Rattle.cs_retrace.specs.Words.{if_so}
 use Rattle.cs_retrace.specs.declared.maxes.Given.{Given}
 use Rattle.cs_retrace.specs.declared.maxes.JobName.TheVariants.{Identifier, Line as OfLine}
 
--- the lines have one command; and one schedule, if that is asked for
+-- the same command; if timed, the same schedule as well
 abbrev pub are_like : Bool → CommandLine → CommandLine → Bool
 are_like timed line other = bytes_eq other.command line.command
     && (not timed || same_when line.when other.when)
 
--- An entry that names the line tells its command, where declarations can; and its schedule, where
+-- An entry that names the line gives its command, where that is UTF-8, and its schedule, where
 -- another line has that command.
 abbrev pub TellsLine : List CommandLine → LineName → CommandLine → Type 0
 TellsLine lines name line = is_named name line ≡ true
@@ -52,8 +52,8 @@ TellsLine lines name line = is_named name line ≡ true
 abbrev pub IsBound : List CommandLine → LineName → Type 0
 IsBound lines name = All (TellsLine lines name) lines
 
--- The bytes declare something with which no fault of the tables is left, no object has a member
--- twice, and the entries are bound to the commands of their lines.
+-- The bytes are declarations without a fault or a doubled member, which join with the tables; their
+-- entries are bound to the commands of their lines.
 pub record IsSound (crontab : Crontab) (anacrontab : Anacrontab) (bytes : List ℕ) (d : Entries)
     : Type 0 where
   pub declared : declared_by bytes ≡ Ok d
@@ -64,64 +64,59 @@ pub record IsSound (crontab : Crontab) (anacrontab : Anacrontab) (bytes : List �
 
 -- ---- parts
 
--- All of them; or none where declarations can't have them: one stands twice, or there are more than
--- a job may have minutes.
+-- all of the names; none if one stands twice, or if they are more than the minutes that a job may
+-- have
 abbrev pub declarable : List (List ℕ) → List (List ℕ)
 declarable names = if nat_le (length names) MAX_MINUTES
     && list_all (λ name. count_by (λ other. bytes_eq other name) names == 1) names
     then names else []
 
--- the parts of the line, by its place in a gathered table
+-- the parts at the line's place in a gathered table
 abbrev pub parts_of : List Place → CommandLine → List (List ℕ)
 parts_of places line =
     declarable (unwrap_or (option_map (λ place. place.parts) (place_of places line.number)) [])
 
--- the entry has parts of these names, and its longest time is their sum
 abbrev pub HasParts : List (List ℕ) → CronEntry → Type 0
 HasParts names e = (map (λ p. p.name) e.parts ≡ names) × (e.max ≡ pos (minutes_of e.parts))
 
--- the part has that name
 abbrev pub is_part : List ℕ → PartEntry → Bool
 is_part name p = bytes_eq p.name name
 
--- each name is that of a part
 abbrev pub all_are_parts : List (List ℕ) → List PartEntry → Bool
 all_are_parts names parts = list_all (λ name. list_any (is_part name) parts) names
 
 -- ---- times that are given
 
--- the greater one of a limit, where there is one, and a longest time
 abbrev pub greater : Option ℕ → ℕ → ℕ
 greater None max = max
 greater (Some limit) max = nat_max limit max
 
--- A run that waits for a lock may begin inside a minute, and gets a minute more, as far as 64 bits
--- count; and no time is less than timeout(1) allows the command.
+-- A run that waits for a lock may begin inside a minute, and gets one minute more, up to 64 bits.
+-- No time is less than timeout(1) allows the command.
 abbrev pub time_for : List ℕ → Mode → ℕ → ℕ
 time_for command mode max =
     greater (time_limit command) (min (max + (if waits_in mode then 1 else 0)) (2 ^ 64 - 1))
 
--- the longest time of a command of this mode as a whole, where one is given, and a job may have it
+-- the given time of a command that is declared as a whole, if a job may have that much
 abbrev pub time_of : List Given → CommandLine → Bool → Mode → Option ℕ
 time_of given line whole mode = if whole then option_and_then
     (λ max. if_so (nat_le (time_for line.command mode max) MAX_MINUTES)
     (time_for line.command mode max)) (max_of given (OfLine line.number)) else None
 
--- An entry has the time that is given, which is no guess, and no parts; or where none is, times as
--- without it.
+-- The entry has the given time, which is no guess, and no parts. Where none is given, Has holds.
 abbrev pub HasTimes : Option ℕ → (CronEntry → Type 0) → CronEntry → Type 0
 HasTimes None Has e = Has e
 HasTimes (Some max) Has e = (e.max ≡ pos max) × (e.parts ≡ []) × (e.guess ≡ false)
 
--- where one is given, the entry of its line has it, whether that is new or kept
+-- a given time is that of the line's entry, new or kept
 abbrev pub HasGiven : List Given → CommandLine → CronEntry → Type 0
 HasGiven given line e = IfSome (time_of given line (length e.parts == 0) e.mode)
     (λ max. (e.max ≡ pos max) × (e.guess ≡ false))
 
 -- ---- what is new
 
--- The longest time of a command without parts is the asked one, or one that can be from a due
--- minute to the next; it isn't more than the asked one, nor than any from a due minute to the next.
+-- The longest time of a command without parts is the asked one, or the least time from a due minute
+-- to the next if that is less. With parts it is their sum.
 abbrev pub IsTimed : ℕ → When → List (List ℕ) → CronEntry → Type 0
 IsTimed asked Reboot names e = Unit {0}
 IsTimed asked (At schedule) [] e = (brief : ℕ) × (e.max ≡ pos brief) × (e.parts ≡ [])
@@ -134,17 +129,16 @@ abbrev pub is_guess : List ℕ → ℤ → Bool
 is_guess command max =
     unwrap_or (option_map (λ limit. not (int_eq max (pos limit))) (time_limit command)) true
 
--- without a time that is given, those of these parts, marked as a guess if the longest one is one
+-- the times of an entry for which none is given
 abbrev pub HasNewTimes : ℕ → List (List ℕ) → CommandLine → CronEntry → Type 0
 HasNewTimes asked names line e = IsTimed (asked_for asked line.command) line.when names e
     × (e.guess ≡ is_guess line.command e.max)
 
--- the entry of a new command has such times and the least weight
 abbrev pub IsNewEntry : ℕ → List Given → List (List ℕ) → CommandLine → CronEntry → Type 0
 IsNewEntry asked given names line e = (e.weight ≡ pos 1)
     × HasTimes (time_of given line (length names == 0) e.mode) (HasNewTimes asked names line) e
 
--- without a time that is given, that of the default, which is no guess, and no parts
+-- the default's longest time, which is no guess, and no parts
 abbrev pub HasDefaultTime : DefaultEntry → CronEntry → Type 0
 HasDefaultTime default e = (e.max ≡ default.max) × (e.parts ≡ []) × (e.guess ≡ false)
 
@@ -152,71 +146,70 @@ abbrev pub IsDefaultEntry : List Given → CommandLine → DefaultEntry → Cron
 IsDefaultEntry given line default e = (e.weight ≡ default.weight)
     × HasTimes (time_of given line true e.mode) (HasDefaultTime default) e
 
--- A new command has an entry that is new; or where there is a default, one that has that if the
--- command has something of its own, and else none.
+-- A new command has a new entry. With a default it has an entry only if it has something of its
+-- own, and the entry then has the default's terms.
 abbrev pub IsAdded : (CronEntry → Type 0) → (DefaultEntry → CronEntry → Type 0) → Bool
     → Option DefaultEntry → Option CronEntry → Type 0
 IsAdded New Defaulted own None entry = IsSomeAnd entry New
 IsAdded New Defaulted false (Some default) entry = entry ≡ None
 IsAdded New Defaulted true (Some default) entry = IsSomeAnd entry (Defaulted default)
 
--- that is a lock that it takes, or a time that is given
+-- its own: a lock that it takes, or a given time
 abbrev pub has_own : List Given → CommandLine → Bool
 has_own given line =
     is_some (lock_of line.command) || is_some (max_of given (OfLine line.number))
 
--- the text is this one
 abbrev pub is_text : List ℕ → Option (List ℕ) → Bool
 is_text text None = false
 is_text text (Some told) = bytes_eq told text
 
--- The entry takes the lock that the command takes by flock(1), by a group of the file's name. It
--- takes none if that takes none, or if there can't be such a group.
+-- The entry has the mode of the command's flock(1) and the group of the lock file's name. It has
+-- neither where the command takes no lock, or where there can be no such group.
 abbrev pub IsLocked : List GroupEntry → Option (List ℕ × Mode) → CronEntry → Type 0
 IsLocked groups None e = (e.group ≡ None) × (e.mode ≡ Plain)
 IsLocked groups (Some lock) e = ((e.group ≡ Some lock.0) × (e.mode ≡ lock.1))
     ⊎ ((length groups ≡ MAX_GROUPS) × All (λ g. g.name ≢ lock.0) groups
     × (e.group ≡ None) × (e.mode ≡ Plain))
 
--- the group is exclusive, and that of an entry
+-- an added group is exclusive, and an entry is in it
 abbrev pub is_new_group : Entries → GroupEntry → Bool
 is_new_group d g = g.exclusive && list_any (λ e. is_text g.name e.group) d.cron
 
 -- ---- what is kept
 
--- the name tells the command of the line; and its schedule, if that is asked for
+-- the name gives the line's command; if timed, its schedule as well
 abbrev pub tells : Bool → CommandLine → LineName → Bool
 tells timed line name = is_text line.command name.command
     && (not timed || is_some name.when && is_told_when name.when line.when)
 
--- no line is like the line, which isn't an `@reboot`, and one entry alone tells it
+-- no other line is like this one, which isn't `@reboot`, and one old entry alone gives it
 abbrev pub is_lone : Bool → List CommandLine → Entries → CommandLine → Bool
 is_lone timed lines old line = not (is_reboot line.when)
     && (count_by (are_like timed line) lines == 1
     && count_by (tells timed line) (names_of old) == 1)
 
--- the line isn't an `@reboot`, and no entry tells its command
+-- the line isn't `@reboot`, and no old entry gives its command
 abbrev pub is_new : Entries → CommandLine → Bool
 is_new old line = not (is_reboot line.when) && count_by (tells false line) (names_of old) == 0
 
--- a part that was there has the longest time that it had
+-- an old part keeps its longest time
 abbrev pub KeepsPart : List PartEntry → PartEntry → Type 0
 KeepsPart old p = IfSome (find (is_part p.name) old) (λ o. p.max ≡ o.max)
 
 -- The longest time and the parts are kept. Or an entry with parts gets those of the table, and its
--- longest time is a guess if one of them is new.
+-- longest time is a guess if it was one or a part is new.
 abbrev pub KeepsTimes : List (List ℕ) → CronEntry → CronEntry → Type 0
 KeepsTimes names o n =
     ((n.max ≡ o.max) × (n.parts ≡ o.parts) × (n.guess ≡ o.guess))
     ⊎ ((names ≢ []) × (o.parts ≢ []) × HasParts names n × All (KeepsPart o.parts) n.parts
     × (n.guess ≡ (o.guess || not (all_are_parts names o.parts))))
 
--- the same is declared by two entries, but for parts that came or went, and a time that is given
+-- the terms are the same, except for parts that came or went, and a given time
 abbrev pub AreAlike : List Given → CommandLine → List (List ℕ) → CronEntry → CronEntry → Type 0
 AreAlike given line names o n = (n.weight ≡ o.weight) × (n.group ≡ o.group) × (n.mode ≡ o.mode)
     × HasTimes (time_of given line (length o.parts == 0) n.mode) (KeepsTimes names o) n
 
--- A line that one old entry alone tells has an entry that is like that, or is left out as it was.
+-- A line that one old entry alone gives has an entry like that one, or stays in `left_out`.
 abbrev pub IsKept : Bool → List Given → List Place → List CommandLine → Entries → Entries
     → CommandLine → Type 0
 IsKept timed given places lines old new line = is_lone timed lines old line ≡ true
@@ -224,23 +217,24 @@ IsKept timed given places lines old new line = is_lone timed lines old line ≡ 
     (find (λ e. is_named e.name line) new.cron) (AreAlike given line (parts_of places line) o))
     × (list_any (tells timed line) old.left_out ≡ true → is_left_out new line ≡ true)
 
--- the name tells the command of no line
+-- no line has the name's command
 abbrev pub is_gone : List CommandLine → LineName → Bool
 is_gone lines name = list_all (λ line. not (is_text line.command name.command)) lines
 
--- the old entry that alone is gone, where one line alone is new
+-- the one old entry whose command is gone, where one line alone is new
 abbrev pub left_behind : List CommandLine → Entries → Option CronEntry
 left_behind lines old =
     if count_by (is_new old) lines == 1 && count_by (is_gone lines) (names_of old) == 1
     then find (λ e. is_gone lines e.name) old.cron else None
 
--- The line may have that entry: both commands run one program, and no other schedule is told.
+-- The new line may take the entry over: both commands run the same program, and the entry gives no
+-- other schedule.
 abbrev pub may_follow : CommandLine → CronEntry → Bool
 may_follow line o = unwrap_or (option_map (λ program. is_text program (program_of line.command))
     (o.name.command >>= program_of)) false && is_told_when o.name.when line.when
 
--- What one old entry alone tells of a line is declared of that line. A new command is added, or has
--- what the entry left behind declares; it isn't left out, and its entry has the command's lock.
+-- A line keeps what the one old entry for it declares. A new command gets an entry of its own or
+-- takes over the entry left behind; it isn't in `left_out`, and its entry has the command's lock.
 pub record IsUpdatedLine (lines : List CommandLine) (places : List Place) (old : Entries)
     (behind : Option CronEntry) (max : ℕ) (given : List Given) (new : Entries) (line : CommandLine)
     : Type 0 where
@@ -257,29 +251,27 @@ pub record IsUpdatedLine (lines : List CommandLine) (places : List Place) (old :
       × IfSome (find (λ e. is_named e.name line) new.cron)
       (IsLocked new.groups (lock_of line.command))
 
--- the longest time of an anacron job, where one is given: no less than timeout(1) allows its command
+-- a given time of an anacron job is no less than timeout(1) allows its command
 abbrev pub job_time : List Given → JobLine → Option ℕ
 job_time given job =
     option_map (greater (time_limit job.command)) (max_of given (Identifier job.identifier))
 
--- a longest time, and whether it is a guess: the one that is given is none; or where none is, these
+-- the longest time, and whether it is a guess; a given one is none
 abbrev pub given_or : Option ℕ → ℤ × Bool → ℤ × Bool
 given_or None times = times
 given_or (Some max) times = (pos max, false)
 
--- the asked one, or that of the command
+-- the times of a new anacron job
 abbrev pub new_times : ℕ → List ℕ → ℤ × Bool
 new_times asked command =
     (pos (asked_for asked command), is_guess command (pos (asked_for asked command)))
 
--- the entry of an anacron job has this weight, this group and these times
 abbrev pub HasTerms : ℤ → Option (List ℕ) → ℤ × Bool → AnacronEntry → Type 0
 HasTerms weight group times e = (e.weight ≡ weight) × (e.group ≡ group)
     × (e.max ≡ times.0) × (e.guess ≡ times.1)
 
--- An anacron job keeps what its old entry declares, but for a time that is given. One that has none
--- has a new one, of the least weight and in no group. If there is a default, it has that weight, and
--- there is one only if a time is given.
+-- An anacron job keeps its old entry, except for a given time. A new job has the least weight and
+-- no group. With a default, only a job with a given time gets an entry, of the default's weight.
 abbrev pub IsJobEntry : Option ℕ → ℤ × Bool → Option DefaultEntry → Option AnacronEntry
     → Option AnacronEntry → Type 0
 IsJobEntry time times default (Some o) new =
@@ -294,8 +286,7 @@ IsUpdatedJob old max given new line = IsJobEntry (job_time given line)
     (new_times max line.command) old.default (find (is_of_job line.identifier) old.anacron)
     (find (is_of_job line.identifier) new.anacron)
 
--- All else is as it was, but that groups may be added, of which each is exclusive and that of an
--- entry.
+-- All else is as before. Groups may be added: each is exclusive, and an entry is in it.
 pub record AreUpdates (crontab : Crontab) (anacrontab : Anacrontab) (places : List Place)
     (old : Entries) (max : ℕ) (given : List Given) (new : Entries) : Type 0 where
   pub lines : All (IsUpdatedLine crontab.lines places old (left_behind crontab.lines old) max given
@@ -309,15 +300,15 @@ pub record AreUpdates (crontab : Crontab) (anacrontab : Anacrontab) (places : Li
   pub groups : take (length old.groups) new.groups ≡ old.groups
   pub new_groups : list_all (is_new_group new) (drop (length old.groups) new.groups) ≡ true
 
--- .. by the text that is read back
+-- the same of the text that is read back
 abbrev pub IsUpdate : Crontab → Anacrontab → List Place → Entries → ℕ → List Given → List ℕ
     → Type 0
 IsUpdate crontab anacrontab places old max given bytes = (new : Entries)
     × IsSound crontab anacrontab bytes new
     × AreUpdates crontab anacrontab places old max given new
 
--- A draft updates this: nothing is declared of jobs; the capacity is the greatest, clocks are ahead
--- of UTC by so many minutes, and catch-up is at all hours.
+-- A draft is an update of this: no job is declared, the capacity is the greatest, clocks are `east`
+-- minutes ahead of UTC, and catch-up is at all hours.
 abbrev pub nothing : ℤ → Entries
 nothing east = record {
   capacity = pos MAX_CAPACITY;
@@ -334,23 +325,22 @@ nothing east = record {
 
 -- ---- warnings
 
--- a new command names a program that locks files, isn't left out, and is in no group
+-- a new command that names a program that locks files, isn't in `left_out`, and is in no group
 unfoldable pub is_unlocked : Entries → Entries → CommandLine → Bool
 is_unlocked old d line = names_lock line.command && (is_new old line
     && (not (is_left_out d line)
     && is_none (find (λ e. is_named e.name line) d.cron >>= λ e. e.group)))
 
--- a new anacron job names one
+-- a new anacron job that names one
 abbrev pub is_unlocked_job : Entries → JobLine → Bool
 is_unlocked_job old job =
     names_lock job.command && is_none (find (is_of_job job.identifier) old.anacron)
 
--- how the warning of a line of that table begins
 unfoldable pub warning_of : List ℕ → ℕ → List ℕ
 warning_of table number = (((codes "warning: the command on line " ++ decimal number)
     ++ codes " of the ") ++ table) ++ codes " is declared without a lock: "
 
--- lines of a text warn of all these, in their order
+-- lines of the text warn of all these, in their order
 unfoldable pub warn_of : List ℕ → List ℕ → List (List ℕ) → Bool
 warn_of table [] lines = true
 warn_of table (number ∷ numbers) [] = false
@@ -358,7 +348,7 @@ warn_of table (number ∷ numbers) (line ∷ lines) =
     if is_below (warning_of table number) line then warn_of table numbers lines
     else warn_of table (number ∷ numbers) lines
 
--- The warnings have a line for each such command, and for each such job, by the entries that the
+-- Standard error has a line for each new command and job without a lock, by the entries that the
 -- bytes declare.
 abbrev pub Warn : Crontab → Anacrontab → Entries → List ℕ → List ℕ → Type 0
 Warn crontab anacrontab old bytes warnings = (d : Entries) × (declared_by bytes ≡ Ok d)

@@ -1,5 +1,4 @@
-//! Whether lines and jobs are declared as an update has them: what old declarations tell is kept, and
-//! what they don't is new.
+//! Whether lines and jobs are declared as an update has to declare them.
 ghost use Rattle.std.specs.Prelude.{◌≡◌, ◌⊎◌, ◌≤◌, IfOk, IfSome, IsSomeAnd, IsTrue, drop, false};
 ghost use Rattle.std.specs.Prelude.{find, length, option_map, true};
 ghost use Rattle.std.specs.List.{list_all, list_any};
@@ -29,8 +28,7 @@ use std::alloc::{AllocError, Global};
 
 // ---- longest times
 
-/// The longest time of a new command in minutes: the asked one, or the time to its next due minute
-/// if that is shorter.
+/// The asked time in minutes, or the shortest time to its next due minute if that is less.
 #[tactic(auto, using(crate::proofs::Apart::still_apart))]
 pub(crate) fn brief_max(schedule: &Schedule, asked: u64) -> u64
     ensures most { result ≤ asked }
@@ -43,7 +41,6 @@ pub(crate) fn brief_max(schedule: &Schedule, asked: u64) -> u64
     }
 }
 
-/// Whether that longest time is a guess: the command's timeout(1) doesn't set it.
 pub(crate) fn is_guess(command: &[u8], max: i128) -> bool
     ensures { result ≡ is_guess command.now max }
 {
@@ -55,8 +52,6 @@ pub(crate) fn is_guess(command: &[u8], max: i128) -> bool
 
 // ---- lines
 
-/// Whether the longest time is brief, or the sum of those of parts of these names, and is marked as a
-/// guess if it is one.
 fn has_new_times(asked: u64, names: &[Bytes], line: &Line, entry: &CronEntry) -> bool
     ensures { IsTrue result → HasNewTimes asked names.now line.now entry.now }
 {
@@ -75,7 +70,6 @@ fn has_new_times(asked: u64, names: &[Bytes], line: &Line, entry: &CronEntry) ->
     }
 }
 
-/// Whether the entry has the time that is given, or where none is, those of a new command, and weighs 1.
 fn is_new_entry(
     asked: u64,
     given: &[Given],
@@ -94,7 +88,6 @@ fn is_new_entry(
     }
 }
 
-/// Whether the entry has the time that is given, or where none is, that of the default, and its weight.
 fn has_default(given: &[Given], line: &Line, default: &DefaultEntry, entry: &CronEntry) -> bool
     ensures { IsTrue result → IsDefaultEntry given.now line.now default.now entry.now }
 {
@@ -105,7 +98,6 @@ fn has_default(given: &[Given], line: &Line, default: &DefaultEntry, entry: &Cro
     entry.weight == default.weight && has_time(max, entry)
 }
 
-/// Whether the entry takes the lock, or none if there can be no group of the file's name.
 pub(crate) fn is_locked(
     groups: &[GroupEntry],
     lock: &Option<(Bytes, Mode)>,
@@ -127,8 +119,6 @@ pub(crate) fn is_locked(
             .all(|group| group.name.as_slice() != file.as_slice())
 }
 
-/// Whether a new command has what the entry left behind declares; or an entry that is new, or where
-/// there is a default, one that has that if the command has something of its own, and else none.
 fn is_added(
     asked: u64,
     given: &[Given],
@@ -160,8 +150,6 @@ fn is_added(
     }
 }
 
-/// Whether the line of a new command has such an entry, or what the entry left behind declares; and
-/// that takes the lock of the command, and isn't left out.
 fn is_new_line(
     alloc: Global,
     places: &[Place],
@@ -199,7 +187,6 @@ fn is_new_line(
     }
 }
 
-/// Whether what one old entry alone tells of the line is kept, or a new command is added.
 pub(crate) fn is_updated_line(
     alloc: Global,
     lines: &[Line],
@@ -229,7 +216,6 @@ pub(crate) fn is_updated_line(
 
 // ---- anacron jobs and groups
 
-/// Whether there is an entry with this weight, this group and these times.
 fn has_terms(
     weight: i128,
     group: &Option<Bytes>,
@@ -248,7 +234,7 @@ fn has_terms(
         && entry.guess == times.1
 }
 
-/// The longest time of a new anacron job, and whether it is a guess.
+/// The longest time in minutes, and whether it is a guess.
 fn new_times(asked: u64, command: &[u8]) -> (i128, bool)
     ensures { result ≡ new_times asked command.now }
 {
@@ -256,7 +242,6 @@ fn new_times(asked: u64, command: &[u8]) -> (i128, bool)
     (max, is_guess(command, max))
 }
 
-/// Whether the anacron job keeps what its old entry declares, or is added.
 pub(crate) fn is_updated_job(
     old: &Entries,
     max: u64,
@@ -288,7 +273,6 @@ fn has_entry(entries: &[CronEntry], name: &[u8]) -> bool
     entries.iter().any(|entry| is_text(name, &entry.group))
 }
 
-/// Whether the group is exclusive, and that of an entry.
 fn is_new_group(entries: &Entries, group: &GroupEntry) -> bool
     ensures { result ≡ is_new_group entries.now group.now }
 {
@@ -301,7 +285,6 @@ fn are_all_new(entries: &Entries, groups: &[GroupEntry]) -> bool
     groups.iter().all(|group| is_new_group(entries, group))
 }
 
-/// Whether each group that is added is.
 pub(crate) fn are_new_groups(old: &Entries, new: &Entries) -> bool
     ensures { IsTrue result
         → list_all (is_new_group new.now) (drop (length old.now.groups) new.now.groups) ≡ true }

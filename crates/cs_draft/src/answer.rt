@@ -23,8 +23,7 @@ use cs_plan::is_possible_max;
 use cs_retrace::{Given, JobName, MaxFault, has_job, read_maxes};
 use std::alloc::{AllocError, Global};
 
-/// What is answered of a line of a text of longest times that has a fault: `PATH line 3: ..`, with the
-/// name of the job, if the line has one.
+/// A fault of a line of the longest times: `PATH line 3: NAME ..`, the name if the line has one.
 fn refused(
     alloc: Global,
     path: &str,
@@ -42,7 +41,6 @@ fn refused(
     Response::fault(alloc, Status::BadInput, b"".as_slice(), fault.as_slice())
 }
 
-/// What is answered where a text of longest times can't be read.
 fn misread(alloc: Global, path: &str, place: u64, fault: &MaxFault) -> Result<Response, AllocError>
     ensures { IfOk result IsRefused }
 {
@@ -57,7 +55,6 @@ fn misread(alloc: Global, path: &str, place: u64, fault: &MaxFault) -> Result<Re
     refused(alloc, path, place, name, reason)
 }
 
-/// Why no job has that name.
 fn unknown(name: &JobName) -> &'static str {
     match name {
         JobName::Line(_) => " of the crontab has no job",
@@ -65,7 +62,6 @@ fn unknown(name: &JobName) -> &'static str {
     }
 }
 
-/// The first longest time that is given for no job of the tables.
 fn first_unknown<'g>(lines: &[Line], jobs: &[Job], given: &'g [Given]) -> Option<&'g Given>
     ensures none { IsNone result → All (IsOfTables lines.now jobs.now) given.now }
     ensures some { IfSome result (λ g. All (IsOfTables lines.now jobs.now) given.now → ⊥) }
@@ -78,7 +74,8 @@ fn first_unknown<'g>(lines: &[Line], jobs: &[Job], given: &'g [Given]) -> Option
     None
 }
 
-/// The declarations at a path, and their bytes, if there is one.
+/// The bytes are kept, since an update copies members that `Declarations` don't hold, such as
+/// notes.
 fn find_old<'a, I: Inputs>(
     alloc: Global,
     inputs: &mut I,
@@ -107,7 +104,6 @@ fn find_old<'a, I: Inputs>(
     }
 }
 
-/// The text at a path, or an empty one.
 fn text_at<'a, I: Inputs>(
     alloc: Global,
     inputs: &mut I,
@@ -127,20 +123,20 @@ fn text_at<'a, I: Inputs>(
     }
 }
 
-/// Both tables, old declarations with their bytes, if there are some, and the text of longest times.
+/// What `draft` reads.
 #[derive(Drop)]
 pub struct Draftable {
-    /// The tables.
+    /// The crontab and the anacrontab.
     pub tables: Tables,
-    /// The old declarations.
+    /// The declarations to update, and their bytes.
     pub old: Option<(Declarations, Vec<u8>)>,
-    /// The longest times of jobs, as `learn` prints them.
+    /// The longest times of jobs, as `learn` prints them; empty if none are given.
     pub maxes: Bytes,
 }
 
-/// Reads both tables, the old declarations, if there are some, and then the longest times, and writes to
-/// standard error what is to be warned of the tables; but not where no job may declare the longest time
-/// that is asked.
+/// Reads both tables, the old declarations and the longest times, in this order, and writes
+/// warnings about the tables to standard error. A longest time that no job may declare is refused
+/// before a file is read.
 pub fn find_draftable<'a, I: Inputs, E: Output>(
     alloc: Global,
     inputs: &mut I,
@@ -168,7 +164,6 @@ pub fn find_draftable<'a, I: Inputs, E: Output>(
     Ok(Draftable { tables, old, maxes })
 }
 
-/// What is answered by these longest times.
 fn show(
     alloc: Global,
     max: u64,
@@ -202,8 +197,8 @@ fn show(
     }
 }
 
-/// Answers `draft TABLE [--anacrontab FILE] [--max N] [--update OLD] [--max-from FILE]`, where clocks are
-/// ahead of UTC by `offset` minutes. The only error is want of memory.
+/// Answers `draft TABLE [--anacrontab FILE] [--max N] [--update OLD] [--max-from FILE]`, where
+/// clocks are `offset` minutes ahead of UTC. The only error is out of memory.
 pub fn answer_draft(
     alloc: Global,
     words: &DraftWords<'_>,

@@ -1,4 +1,4 @@
-//! Whether what was drawn up is what it is to be: it is read back.
+//! Whether a draft that is read back is what it has to be.
 ghost use Rattle.std.specs.Prelude.{◌≡◌, All, IfOk, IfSome, IsTrue, None, Ok};
 ghost use Rattle.cs_decl.specs.Faults.{first_fault};
 ghost use Rattle.cs_decl.specs.Join.{join_faults};
@@ -18,7 +18,6 @@ use cs_plan::DeclError;
 use cs_retrace::Given;
 use std::alloc::{AllocError, Global};
 
-/// What the text declares, if it does. The only error is want of memory.
 fn declared(alloc: Global, text: &[u8]) -> Result<Option<Declarations>, AllocError>
     ensures { IfOk result (λ found. IfSome found (λ d. declared_by text.now ≡ Ok d)) }
 {
@@ -29,7 +28,6 @@ fn declared(alloc: Global, text: &[u8]) -> Result<Option<Declarations>, AllocErr
     }
 }
 
-/// Whether there is a plan of the tables and the declarations.
 #[tactic(auto, using(crate::proofs::Joins::plan_fits))]
 fn is_fitting(
     alloc: Global,
@@ -47,7 +45,6 @@ fn is_fitting(
     }
 }
 
-/// Whether no object has a member twice, and the entries are bound to the commands of the lines.
 fn are_sound(entries: &Entries, lines: &[Line]) -> bool
     ensures once { IsTrue result → entries.now.doubled ≡ None }
     ensures bound { IsTrue result → All (λ e. IsBound lines.now e.name) entries.now.cron }
@@ -90,7 +87,6 @@ fn are_updated_jobs(old: &Entries, max: u64, given: &[Given], new: &Entries, job
     true
 }
 
-/// Whether the entries are those of an update.
 fn are_updates(
     alloc: Global,
     table: &Crontab,
@@ -113,8 +109,6 @@ fn are_updates(
     are_updated_lines(alloc, table.lines(), places, old, max, given, new)
 }
 
-/// Whether the text is an update of the declarations, and these warnings tell the locks that it
-/// lacks.
 pub(crate) fn is_update(
     alloc: Global,
     table: &Crontab,

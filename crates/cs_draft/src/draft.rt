@@ -16,22 +16,15 @@ use cs_plan::MAX_CAPACITY;
 use cs_retrace::Given;
 use std::alloc::{AllocError, Global};
 
-/// Returns the old declarations, which were read from the bytes, for the jobs of both tables, and what
-/// an operator has to know of them, a line each, which begins with `warning: ` or `note: `.
+/// Returns old declarations brought up to date with both tables, and what an operator has to know
+/// of them, in lines that begin with `warning: ` or `note: `.
 ///
-/// A command that an old entry tells keeps what that declares, wherever its line is now. Of several
-/// entries and lines of one command an entry that tells a schedule is that of the line with that
-/// schedule; of those that tell none, if there are as many of both, the first is that of the first,
-/// and so on; and one entry that is left is that of the one line that is left. Where its entry has
-/// parts, and the places tell others, those that stay keep their longest times, and the longest time
-/// is the new sum. Where one entry alone is left and one command alone is new, that has the entry if
-/// it runs the same program, no other schedule is told, and it takes the entry's lock. An anacron job
-/// keeps what is declared of its identifier, but for a time that is given, and all else is as before.
-/// What is new is declared as by [`draw_up`]; where there is a default, only a new command with a lock
-/// has an entry, with the default's longest time, and a job for which a time is given. What is new or
-/// gone is told, but of a draft. What is drawn up was read back, compared with the old declarations and
-/// the commands, and joined with the tables; there is none where it doesn't pass, which isn't meant to
-/// come. The only error is want of memory.
+/// A command keeps its entry, wherever its line is now. Among several lines of one command, an
+/// entry that gives a schedule belongs to the line of that schedule; entries without one belong to
+/// the lines in their order, if there are as many of both; a last entry belongs to the last line.
+/// If one entry is left over and one command is new, the command takes it over where `may_follow`
+/// allows it and the lock is the same. New jobs are declared as by [`draw_up`]. None where the
+/// text, read back, isn't an update, which should never happen.
 pub(crate) fn update(
     alloc: Global,
     table: &Crontab,
@@ -75,21 +68,15 @@ pub(crate) fn update(
     Ok(None)
 }
 
-/// Returns declarations for the jobs of both tables, where every run takes at most `max` minutes and
-/// clocks are ahead of UTC by `offset` minutes: an update of nothing.
+/// Returns declarations for the jobs of both tables: an update of nothing. `max` and `offset` are
+/// minutes; clocks are ahead of UTC by `offset`.
 ///
-/// Each job has that longest time, or that of timeout(1) where it limits the whole command; a
-/// command has the time to its own next due minute if that is shorter. A longest time that isn't
-/// that of timeout(1) is marked as a guess. The capacity is the greatest, and the catch-up hours
-/// are all. A command that has parts, as the places tell, has them in its entry: each has an equal
-/// share of the time to the next due minute, but at most `max` minutes and at least one. A command
-/// that is a plain call of flock(1), behind settings, guards and nice(1), has the group of the lock
-/// file, which is exclusive, and the mode that the options ask for. Each other command that names a
-/// program that locks files has no lock, and a warning says how to declare one. `@reboot` lines are
-/// left out, each with a warning. A command without parts whose line has a longest time that is
-/// given has that, one minute more where its runs wait for a lock, and no less than timeout(1)
-/// allows it, where a job may have as much; and so has an anacron job, which waits for no lock. The
-/// remarks are passed on.
+/// A job may run for `max` minutes, or as long as timeout(1) lets the whole command run; a command
+/// at most to its next due minute, a gathered one by equal shares for its parts. A time is a guess
+/// unless timeout(1) or `given` sets it. A plain call of flock(1), after settings, guards and
+/// nice(1), gets the lock file's group and the mode of its options; other commands that name a
+/// program that locks files get a warning, and `@reboot` lines go to `left_out`, each with a
+/// warning.
 pub(crate) fn draw_up(
     alloc: Global,
     table: &Crontab,

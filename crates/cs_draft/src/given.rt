@@ -11,7 +11,6 @@ use cs_history::Mode;
 use cs_plan::MAX_MINUTES;
 use cs_retrace::{Given, max_of, max_of_identifier};
 
-/// The longest time, or what timeout(1) allows the command if that is more.
 fn greater(command: &[u8], max: u64) -> u64
     ensures { result ≡ greater (time_limit command.now) max }
 {
@@ -21,8 +20,6 @@ fn greater(command: &[u8], max: u64) -> u64
     }
 }
 
-/// The longest time of a command of this mode as a whole, where one is given, and a job may have it: a
-/// minute more where a run may begin inside a minute, or what timeout(1) allows if that is more.
 pub(crate) fn time_of(given: &[Given], line: &Line, is_whole: bool, mode: Mode) -> Option<u64>
     ensures { result ≡ time_of given.now line.now is_whole mode }
 {
@@ -38,7 +35,6 @@ pub(crate) fn time_of(given: &[Given], line: &Line, is_whole: bool, mode: Mode) 
     Some(max)
 }
 
-/// The longest time of an anacron job, where one is given: no less than timeout(1) allows its command.
 pub(crate) fn job_time(given: &[Given], job: &Job) -> Option<u64>
     ensures { result ≡ job_time given.now job.now }
 {
@@ -46,7 +42,6 @@ pub(crate) fn job_time(given: &[Given], job: &Job) -> Option<u64>
     Some(greater(job.command(), max))
 }
 
-/// The time that is given, which is no guess; or where none is, these.
 pub(crate) fn given_or(time: Option<u64>, times: (i128, bool)) -> (i128, bool)
     ensures { result ≡ given_or time times }
 {
@@ -56,7 +51,6 @@ pub(crate) fn given_or(time: Option<u64>, times: (i128, bool)) -> (i128, bool)
     }
 }
 
-/// Whether the entry of a line, if there is one, has the time that is given.
 pub(crate) fn has_given(given: &[Given], line: &Line, entry: Option<&CronEntry>) -> bool
     ensures { IsTrue result
         → IfSome (option_map (λ e. e.now) entry.entry) (HasGiven given.now line.now) }
@@ -70,7 +64,6 @@ pub(crate) fn has_given(given: &[Given], line: &Line, entry: Option<&CronEntry>)
     }
 }
 
-/// Whether the entry has that time, which is no guess, and no parts.
 pub(crate) fn has_time(max: i128, entry: &CronEntry) -> bool
     ensures max { IsTrue result → entry.now.max ≡ max }
     ensures parts { IsTrue result → entry.now.parts ≡ [] }

@@ -1,4 +1,4 @@
-//! Entries of anacron jobs as they are drawn up.
+//! Drafts the entries of anacron jobs.
 
 use crate::layout::{COMMA, Done, add_members, add_number};
 use crate::names::job_entry;
@@ -12,7 +12,7 @@ use cs_diagnostics::shown;
 use serde_json::Value;
 use std::alloc::Global;
 
-/// Tells of a longest time that is given and lowers that of an old entry.
+/// Notes that a given time is less than that of the old entry.
 fn tell_lowered(alloc: Global, told: &mut Vec<u8>, old: Old<'_>, job: &Job, max: u64) -> Done {
     let Some(entry) = job_entry(old.entries, job.identifier()) else {
         return Ok(());
@@ -26,7 +26,7 @@ fn tell_lowered(alloc: Global, told: &mut Vec<u8>, old: Old<'_>, job: &Job, max:
     tell(told, "note: job ", name.as_str(), text.as_str())
 }
 
-/// Adds what an old entry declares of a job, but for a time that is given.
+/// Adds what the old entry declares, except for a given time.
 pub(crate) fn add_kept_job(
     alloc: Global,
     anacron: &mut Vec<u8>,
@@ -47,7 +47,7 @@ pub(crate) fn add_kept_job(
     add_members(alloc, anacron, COMMA, entry, names.as_slice())
 }
 
-/// Adds what is declared of a new job, with the default's weight, where there is that.
+/// Adds a new job, with the default's weight if there is a default.
 pub(crate) fn add_new_job(
     alloc: Global,
     anacron: &mut Vec<u8>,

@@ -17,8 +17,6 @@ use cs_place::Place;
 use cs_plan::is_reboot;
 use cs_retrace::Given;
 
-/// Whether the new entry has the time that is given, or where none is, those of the old one, but for
-/// parts that came or went.
 fn has_times(given: Option<u64>, names: &[Bytes], old: &CronEntry, new: &CronEntry) -> bool
     ensures { IsTrue result → HasTimes given (KeepsTimes names.now old.now) new.now }
 {
@@ -28,7 +26,6 @@ fn has_times(given: Option<u64>, names: &[Bytes], old: &CronEntry, new: &CronEnt
     }
 }
 
-/// Whether weight, group and mode are the same.
 fn are_same_terms(old: &CronEntry, new: &CronEntry) -> bool
     ensures weight { IsTrue result → new.now.weight ≡ old.now.weight }
     ensures group { IsTrue result → new.now.group ≡ old.now.group }
@@ -52,7 +49,6 @@ pub(crate) fn are_alike(
 
 // ---- lines
 
-/// How many entries tell the command of the line; and its schedule, if that is asked for.
 #[tactic(auto, using(crate::proofs::Counts::counted))]
 fn times_told(timed: bool, entries: &Entries, line: &Line) -> usize
     ensures { result ≡ count_by (tells timed line.now) (names_of entries.now) }
@@ -63,21 +59,18 @@ fn times_told(timed: bool, entries: &Entries, line: &Line) -> usize
     entries.count() + left_out.count()
 }
 
-/// Whether no other line is like it, it isn't started at startup, and one entry alone tells it.
 fn is_lone(timed: bool, lines: &[Line], old: &Entries, line: &Line) -> bool
     ensures { result ≡ is_lone timed lines.now old.now line.now }
 {
     !is_reboot(line) && count_like(timed, lines, line) == 1 && times_told(timed, old, line) == 1
 }
 
-/// Whether the command isn't started at startup, and no entry tells it.
 pub(crate) fn is_new(old: &Entries, line: &Line) -> bool
     ensures { result ≡ is_new old.now line.now }
 {
     !is_reboot(line) && times_told(false, old, line) == 0
 }
 
-/// Whether the name tells the command of no line.
 fn is_gone(lines: &[Line], name: &LineName) -> bool
     ensures { result ≡ is_gone lines.now name.now }
 {
@@ -107,7 +100,6 @@ fn first_gone<'e>(lines: &[Line], entries: &'e [CronEntry]) -> Option<&'e CronEn
     entries.iter().find(|entry| is_gone(lines, &entry.name))
 }
 
-/// The old entry that alone is gone, where one line alone is new.
 pub(crate) fn left_behind<'e>(lines: &[Line], old: &'e Entries) -> Option<&'e CronEntry>
     ensures { option_map (λ e. e.now) result ≡ left_behind lines.now old.now }
 {
@@ -117,7 +109,6 @@ pub(crate) fn left_behind<'e>(lines: &[Line], old: &'e Entries) -> Option<&'e Cr
     None
 }
 
-/// Whether the line may have that entry: one program is run, and no other schedule is told.
 pub(crate) fn may_follow(line: &Line, old: &CronEntry) -> bool
     ensures { result ≡ may_follow line.now old.now }
 {
@@ -132,7 +123,6 @@ pub(crate) fn may_follow(line: &Line, old: &CronEntry) -> bool
     }
 }
 
-/// The first entry that tells the line.
 fn entry_that_tells<'e>(timed: bool, entries: &'e Entries, line: &Line) -> Option<&'e CronEntry>
     ensures { option_map (λ e. e.now) result
         ≡ find (λ e. tells timed line.now e.name) entries.now.cron }
@@ -141,7 +131,6 @@ fn entry_that_tells<'e>(timed: bool, entries: &'e Entries, line: &Line) -> Optio
     cron.iter().find(|entry| tells(timed, line, &entry.name))
 }
 
-/// Whether an entry of `left_out` tells the line.
 fn was_left_out(timed: bool, old: &Entries, line: &Line) -> bool
     ensures { result ≡ list_any (tells timed line.now) old.now.left_out }
 {
@@ -149,7 +138,6 @@ fn was_left_out(timed: bool, old: &Entries, line: &Line) -> bool
     names.iter().any(|name| tells(timed, line, name))
 }
 
-/// Whether the line's entry declares what the old one that tells it does, if there is one.
 fn keeps_entry(
     timed: bool,
     given: &[Given],
@@ -171,7 +159,6 @@ fn keeps_entry(
     }
 }
 
-/// Whether the line, if one old entry alone tells it, is declared as before.
 pub(crate) fn is_kept(
     timed: bool,
     given: &[Given],
@@ -194,7 +181,6 @@ fn is_same_group(old: &GroupEntry, new: &GroupEntry) -> bool
     old.name.as_slice() == new.name.as_slice() && old.exclusive == new.exclusive
 }
 
-/// Whether the new groups begin with the old ones.
 fn begin_with(old: &[GroupEntry], new: &[GroupEntry]) -> bool
     ensures { IsTrue result → take (length old.now) new.now ≡ old.now }
 {
@@ -209,7 +195,6 @@ fn begin_with(old: &[GroupEntry], new: &[GroupEntry]) -> bool
     true
 }
 
-/// Whether all but jobs is declared as before, and the groups begin with the old ones.
 pub(crate) fn are_terms(old: &Entries, new: &Entries) -> bool
     ensures capacity { IsTrue result → new.now.capacity ≡ old.now.capacity }
     ensures offset { IsTrue result → new.now.offset ≡ old.now.offset }

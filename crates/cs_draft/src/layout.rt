@@ -1,4 +1,4 @@
-//! How declarations are laid out: one entry a line.
+//! The layout of declarations: one entry a line.
 
 use cs_civil::push_number;
 use serde_json::Value;
@@ -6,16 +6,16 @@ use std::alloc::{AllocError, Global};
 
 pub(crate) type Done = Result<(), AllocError>;
 
-/// What stands between members, between parts and between the items of other lists.
+/// Between members, parts and the items of other lists.
 pub(crate) const COMMA: &str = ", ";
 
-/// What stands between the members of the outermost object.
+/// Between the members of the outermost object.
 pub(crate) const LINE: &str = ",\n  ";
 
-/// What stands between entries.
+/// Between entries.
 pub(crate) const ENTRY: &str = ",\n    ";
 
-/// The text of a value, with a blank behind each comma of a list.
+/// A value as JSON, with a blank after each comma of a list.
 fn value_text(alloc: Global, value: &Value) -> Result<String, AllocError> {
     let Some(items) = value.as_array() else {
         return value.to_string(alloc);
@@ -31,7 +31,7 @@ fn value_text(alloc: Global, value: &Value) -> Result<String, AllocError> {
     Ok(text)
 }
 
-/// Begins an object of a list, so far behind others if it has some.
+/// Begins an object of a list, after `between` if it isn't the first.
 pub(crate) fn begin(text: &mut Vec<u8>, between: &str) -> Done {
     if text.as_slice().ends_with(b"}") {
         text.extend_from_slice(between.as_bytes())?;
@@ -39,7 +39,7 @@ pub(crate) fn begin(text: &mut Vec<u8>, between: &str) -> Done {
     text.extend_from_slice(b"{")
 }
 
-/// Adds a member whose value has that text to an object, so far behind others if it has some.
+/// Adds a member to an object, after `between` if it isn't the first; `value` is JSON.
 pub(crate) fn add(text: &mut Vec<u8>, between: &str, name: &str, value: &str) -> Done {
     let so_far = text.as_slice();
     if !so_far.ends_with(b"{") && !so_far.ends_with(b"{\n  ") {
@@ -51,19 +51,17 @@ pub(crate) fn add(text: &mut Vec<u8>, between: &str, name: &str, value: &str) ->
     text.extend_from_slice(value.as_bytes())
 }
 
-/// Adds a member that is a whole number.
 pub(crate) fn add_number(alloc: Global, text: &mut Vec<u8>, name: &str, number: u64) -> Done {
     add(text, COMMA, name, "")?;
     push_number(alloc, text, u128::from(number))
 }
 
-/// Adds a member that is a text, in quotes, as JSON writes it.
 pub(crate) fn add_text(alloc: Global, text: &mut Vec<u8>, name: &str, value: &str) -> Done {
     let value = Value::String(String::from_str(alloc, value)?);
     add(text, COMMA, name, value.to_string(alloc)?.as_str())
 }
 
-/// Adds those of the named members that a value has.
+/// Copies the named members that the value has.
 pub(crate) fn add_members(
     alloc: Global,
     text: &mut Vec<u8>,

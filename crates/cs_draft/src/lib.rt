@@ -1,5 +1,4 @@
-//! The declarations that an operator begins from, with a group for each file that a command locks
-//! by flock(1), and their update for tables that have changed.
+//! Drafts declarations for tables, or brings older ones up to date with the tables.
 #![tactic(auto)]
 
 mod added;

@@ -1,4 +1,4 @@
-//! The lines and jobs that entries name, and whether they tell the commands of these.
+//! The lines and jobs that entries name, and whether entries give their commands.
 ghost use Rattle.std.specs.Prelude.{◌≡◌, All, IsTrue, count_by, find, option_map};
 ghost use Rattle.cs_decl.specs.Join.{is_left_out, is_named, is_of_job};
 ghost use Rattle.cs_draft.specs.Draft.{IsBound, TellsLine, are_like, is_text, tells};
@@ -7,7 +7,6 @@ use cs_civil::Bytes;
 use cs_crontab::{Line, When};
 use cs_decl::{AnacronEntry, CronEntry, Entries, LineName, is_named, is_same_when, is_told_when};
 
-/// Whether the text is this one.
 pub(crate) fn is_text(text: &[u8], told: &Option<Bytes>) -> bool
     ensures { result ≡ is_text text.now told.now }
 {
@@ -17,7 +16,6 @@ pub(crate) fn is_text(text: &[u8], told: &Option<Bytes>) -> bool
     }
 }
 
-/// Whether the name tells the command of the line; and its schedule, if that is asked for.
 pub(crate) fn tells(timed: bool, line: &Line, name: &LineName) -> bool
     ensures { result ≡ tells timed line.now name.now }
 {
@@ -25,7 +23,6 @@ pub(crate) fn tells(timed: bool, line: &Line, name: &LineName) -> bool
         && (!timed || name.when.is_some() && is_told_when(&name.when, line.when()))
 }
 
-/// How many lines have the line's command; and its schedule, if that is asked for.
 pub(crate) fn count_like(timed: bool, lines: &[Line], line: &Line) -> usize
     ensures { result ≡ count_by (are_like timed line.now) lines.now }
 {
@@ -42,7 +39,6 @@ pub(crate) fn is_left_out(entries: &Entries, line: &Line) -> bool
     names.iter().any(|name| is_named(name, line))
 }
 
-/// The first entry that names the line.
 pub(crate) fn entry_of<'e>(entries: &'e Entries, line: &Line) -> Option<&'e CronEntry>
     ensures { option_map (λ e. e.now) result
         ≡ find (λ e. is_named e.name line.now) entries.now.cron }
@@ -51,7 +47,6 @@ pub(crate) fn entry_of<'e>(entries: &'e Entries, line: &Line) -> Option<&'e Cron
     cron.iter().find(|entry| is_named(&entry.name, line))
 }
 
-/// The first entry of the anacron job.
 pub(crate) fn job_entry<'e>(entries: &'e Entries, identifier: &[u8]) -> Option<&'e AnacronEntry>
     ensures { option_map (λ e. e.now) result
         ≡ find (is_of_job identifier.now) entries.now.anacron }
@@ -64,8 +59,6 @@ pub(crate) fn job_entry<'e>(entries: &'e Entries, identifier: &[u8]) -> Option<&
 
 // ---- whether entries are bound to the commands of their lines
 
-/// Whether the name, if it names the line, tells its command where that is UTF-8; and its schedule,
-/// where another line has that command.
 fn tells_line(lines: &[Line], name: &LineName, line: &Line) -> bool
     ensures { IsTrue result → TellsLine lines.now name.now line.now }
 {

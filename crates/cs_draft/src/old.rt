@@ -1,5 +1,4 @@
-//! Declarations that are updated, as their JSON has them, and the lines that their entries are
-//! bound to.
+//! Old declarations as JSON, and the lines to which their entries belong.
 
 use crate::layout::Done;
 use crate::told::tell_of;
@@ -9,21 +8,21 @@ use cs_plan::is_reboot;
 use serde_json::Value;
 use std::alloc::{AllocError, Global};
 
-/// Declarations as their JSON has them, and as they were read.
+/// Old declarations as JSON, and as they were read.
 #[derive(Clone, Copy)]
 pub(crate) struct Old<'v> {
     pub(crate) value: &'v Value,
     pub(crate) entries: &'v Entries,
-    /// Whether nothing was declared, so that nothing is told to be new.
+    /// Whether nothing was declared: then nothing is noted as new.
     pub(crate) is_draft: bool,
 }
 
-/// An entry that tells a command.
+/// An entry that gives a command.
 #[derive(Clone, Copy)]
 pub(crate) struct Bound<'v> {
     pub(crate) value: &'v Value,
     pub(crate) name: &'v LineName,
-    /// What it declares; an entry that leaves a line out declares nothing.
+    /// None for an entry of `left_out`.
     pub(crate) entry: Option<&'v CronEntry>,
 }
 
@@ -36,7 +35,7 @@ impl<'v> Bound<'v> {
     }
 }
 
-/// The items of the member of that name; none where it is absent.
+/// The items of the list of that name; none where it is absent.
 pub(crate) fn items<'v>(value: &'v Value, name: &str) -> &'v [Value] {
     match value.get(name).and_then(Value::as_array) {
         Some(list) => list.as_slice(),
@@ -44,12 +43,11 @@ pub(crate) fn items<'v>(value: &'v Value, name: &str) -> &'v [Value] {
     }
 }
 
-/// The text of the member of that name.
 pub(crate) fn text_of<'v>(value: &'v Value, name: &str) -> Option<&'v str> {
     value.get(name)?.as_str()
 }
 
-/// The first of the items whose member of that name is the text.
+/// The first item whose member of that name is the text.
 pub(crate) fn item_of<'v>(items: &'v [Value], name: &str, text: &[u8]) -> Option<&'v Value> {
     for item in items {
         if let Some(told) = text_of(item, name)
@@ -61,7 +59,7 @@ pub(crate) fn item_of<'v>(items: &'v [Value], name: &str, text: &[u8]) -> Option
     None
 }
 
-/// Adds the entry at that place in a list, if it tells a command; if it doesn't, that is told.
+/// Adds the entry at that place if it gives a command; else notes that it isn't kept.
 fn push_bound<'v>(
     alloc: Global,
     told: &mut Vec<u8>,
@@ -86,8 +84,7 @@ fn push_bound<'v>(
     )
 }
 
-/// The entries of the declarations that tell a command, in the order of the lines that they name.
-/// It is told of the others.
+/// The entries that give a command, in the order of their lines' numbers. Notes the others.
 pub(crate) fn bound_in<'v>(
     alloc: Global,
     told: &mut Vec<u8>,
@@ -124,14 +121,13 @@ pub(crate) fn bound_in<'v>(
 
 // ---- the entries of lines
 
-/// An entry of a line, by the places of both.
+/// A line and its entry, by their indices.
 #[derive(Clone, Copy)]
 pub(crate) struct Pair {
     pub(crate) line: usize,
     pub(crate) entry: usize,
 }
 
-/// The place of the entry of the line at that place, if it has one.
 pub(crate) fn entry_at(pairs: &[Pair], line: usize) -> Option<usize> {
     for pair in pairs {
         if pair.line == line {
@@ -141,7 +137,6 @@ pub(crate) fn entry_at(pairs: &[Pair], line: usize) -> Option<usize> {
     None
 }
 
-/// Whether a line has the entry at that place.
 pub(crate) fn has_line(pairs: &[Pair], entry: usize) -> bool {
     for pair in pairs {
         if pair.entry == entry {
@@ -151,7 +146,7 @@ pub(crate) fn has_line(pairs: &[Pair], entry: usize) -> bool {
     false
 }
 
-/// What an entry tells of the schedule of a line with its command.
+/// How an entry's schedule compares with that of a line of its command.
 #[derive(Clone, Copy)]
 enum Tells {
     This,
@@ -159,8 +154,8 @@ enum Tells {
     Other,
 }
 
-/// Whether an entry can be that of a line, of which it tells so much. One of `left_out` that tells no
-/// schedule, or another one, is that of a line that is started at startup, if there is one.
+/// Whether the entry can belong to the line. If a line of the command is `@reboot`, it has the
+/// entries of `left_out` that give no schedule, or another one.
 fn fits(tells: Tells, entry: &Bound<'_>, line: &Line, has_reboot: bool) -> bool {
     let when = &entry.name.when;
     let is_told = match tells {
@@ -177,9 +172,9 @@ fn fits(tells: Tells, entry: &Bound<'_>, line: &Line, has_reboot: bool) -> bool 
     is_told && can_be && entry.command() == line.command()
 }
 
-/// The place of the entry of a line, of which it tells so much: of the entries and the lines that are
-/// left the first is that of the first, if there are as many of both; but where entries tell other
-/// schedules, if there is one of both.
+/// The entry of the line, by its index. Of the entries and lines without a partner, the first
+/// belongs to the first if there are as many of both; with other schedules, only if there is one of
+/// both.
 fn owner_of(
     tells: Tells,
     bound: &[Bound<'_>],
@@ -211,8 +206,8 @@ fn owner_of(
     if is_clear { owner } else { None }
 }
 
-/// The lines that have an entry: first those whose schedule an entry tells, then those of entries
-/// that tell none, and then those of entries that tell another one.
+/// The lines that have an entry: first by the same schedule, then by entries that give none, then
+/// by those that give another.
 pub(crate) fn pairs_of(
     alloc: Global,
     bound: &[Bound<'_>],

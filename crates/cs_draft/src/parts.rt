@@ -1,4 +1,4 @@
-//! The parts of commands: those that a gathered table tells, and those that entries have.
+//! The parts of commands, in a gathered table and in entries.
 ghost use Rattle.std.specs.Prelude.{◌≡◌, ◌==◌, [], All, IsTrue, bytes_eq, count_by, find, map, option_map};
 ghost use Rattle.std.specs.Prelude.{pos, unwrap_or};
 ghost use Rattle.std.specs.List.{list_all, list_any};
@@ -15,7 +15,6 @@ use cs_plan::MAX_MINUTES;
 
 // ---- the table's
 
-/// The names of the parts that the place of a line tells.
 pub(crate) fn names_at(places: &[Place], number: u32) -> &[Bytes]
     ensures { result.now
         ≡ unwrap_or (option_map (λ place. place.parts) (place_of places.now number)) [] }
@@ -26,14 +25,12 @@ pub(crate) fn names_at(places: &[Place], number: u32) -> &[Bytes]
     }
 }
 
-/// Whether the name is among them.
 pub(crate) fn has_name(name: &[u8], names: &[Bytes]) -> bool
     ensures { result ≡ list_any (λ other. bytes_eq other name.now) names.now }
 {
     names.iter().any(|other| other.as_slice() == name)
 }
 
-/// How often the name stands among them.
 fn count_of(name: &[u8], names: &[Bytes]) -> usize
     ensures { result ≡ count_by (λ other. bytes_eq other name.now) names.now }
 {
@@ -43,7 +40,6 @@ fn count_of(name: &[u8], names: &[Bytes]) -> usize
         .count()
 }
 
-/// Whether no name stands twice.
 fn have_own(names: &[Bytes]) -> bool
     ensures { result ≡ list_all (λ name. count_by (λ other. bytes_eq other name) names.now == 1)
         names.now }
@@ -53,7 +49,6 @@ fn have_own(names: &[Bytes]) -> bool
         .all(|name| count_of(name.as_slice(), names) == 1)
 }
 
-/// All of the names, or none where declarations can't have them.
 pub(crate) fn declarable(names: &[Bytes]) -> &[Bytes]
     ensures { result.now ≡ declarable names.now }
 {
@@ -63,7 +58,6 @@ pub(crate) fn declarable(names: &[Bytes]) -> &[Bytes]
     &[]
 }
 
-/// The names of the parts of the line.
 pub(crate) fn parts_of<'p>(places: &'p [Place], line: &Line) -> &'p [Bytes]
     ensures { result.now ≡ parts_of places.now line.now }
 {
@@ -72,28 +66,25 @@ pub(crate) fn parts_of<'p>(places: &'p [Place], line: &Line) -> &'p [Bytes]
 
 // ---- those of entries
 
-/// The first part of that name.
 pub(crate) fn part_of<'e>(parts: &'e [PartEntry], name: &[u8]) -> Option<&'e PartEntry>
     ensures { option_map (λ p. p.now) result ≡ find (is_part name.now) parts.now }
 {
     parts.iter().find(|part| part.name.as_slice() == name)
 }
 
-/// Whether one of the parts has that name.
 pub(crate) fn has_part(parts: &[PartEntry], name: &[u8]) -> bool
     ensures { result ≡ list_any (is_part name.now) parts.now }
 {
     parts.iter().any(|part| part.name.as_slice() == name)
 }
 
-/// Whether each name is that of a part.
 pub(crate) fn all_are_parts(names: &[Bytes], parts: &[PartEntry]) -> bool
     ensures { result ≡ all_are_parts names.now parts.now }
 {
     names.iter().all(|name| has_part(parts, name.as_slice()))
 }
 
-/// Whether there are parts in the entry and in the table, and not of the same names.
+/// Whether both have parts, and not of the same names.
 pub(crate) fn have_changed(names: &[Bytes], parts: &[PartEntry]) -> bool {
     !names.is_empty()
         && !parts.is_empty()
@@ -109,7 +100,6 @@ fn is_named(name: &[u8], part: &PartEntry) -> bool
     part.name.as_slice() == name
 }
 
-/// Whether the parts have these names, in this order.
 fn are_named(names: &[Bytes], parts: &[PartEntry]) -> bool
     ensures { IsTrue result → map (λ p. p.name) parts.now ≡ names.now }
 {
@@ -124,7 +114,7 @@ fn are_named(names: &[Bytes], parts: &[PartEntry]) -> bool
     true
 }
 
-/// Whether the longest time is the sum of those of the parts.
+/// Subtracts, as a sum of many parts might not fit.
 fn is_sum(max: i128, parts: &[PartEntry]) -> bool
     ensures { IsTrue result → max ≡ pos (minutes_of parts.now) }
 {
@@ -143,7 +133,6 @@ fn is_sum(max: i128, parts: &[PartEntry]) -> bool
     left == 0
 }
 
-/// Whether the entry has parts of these names, and its longest time is their sum.
 pub(crate) fn has_parts(names: &[Bytes], entry: &CronEntry) -> bool
     ensures { IsTrue result → HasParts names.now entry.now }
 {
@@ -160,7 +149,6 @@ fn keeps_part(old: &[PartEntry], part: &PartEntry) -> bool
     }
 }
 
-/// Whether each part that was there has the longest time that it had.
 fn keep_parts(old: &[PartEntry], new: &[PartEntry]) -> bool
     ensures { IsTrue result → All (KeepsPart old.now) new.now }
 {
@@ -178,7 +166,6 @@ fn is_same_part(old: &PartEntry, new: &PartEntry) -> bool
     old.name.as_slice() == new.name.as_slice() && old.max == new.max
 }
 
-/// Whether the parts are the same, in the same order.
 fn are_same_parts(old: &[PartEntry], new: &[PartEntry]) -> bool
     ensures { IsTrue result → new.now ≡ old.now }
 {
@@ -193,7 +180,6 @@ fn are_same_parts(old: &[PartEntry], new: &[PartEntry]) -> bool
     true
 }
 
-/// Whether the new entry has the times of the old one, but for parts that came or went.
 pub(crate) fn keeps_times(names: &[Bytes], old: &CronEntry, new: &CronEntry) -> bool
     ensures { IsTrue result → KeepsTimes names.now old.now new.now }
 {

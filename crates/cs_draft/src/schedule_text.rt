@@ -1,19 +1,19 @@
-//! The text of a schedule, as entries tell it.
+//! The text of a schedule in an entry.
 
 use crate::layout::Done;
 use cs_civil::push_number;
 use cs_crontab::{Field, Part, When};
 use std::alloc::Global;
 
-/// A step with which `*` stands for the first number of any field alone.
+/// A step with which `*` matches only the first number of any field.
 const FIRST_ALONE: u8 = 60;
 
-/// Whether `*` with the step stands for the number.
+/// Whether `*` with the step matches the number.
 fn is_every(part: Part, step: u8, number: u8) -> bool {
     number.saturating_sub(part.first()).checked_rem(step) == Some(0)
 }
 
-/// Whether the field has all numbers for which `*` with the step stands. Weekday 7 is held as 0.
+/// Whether the field has all numbers that `*` with the step matches. Weekday 7 is held as 0.
 fn has_every(field: &Field, part: Part, step: u8) -> bool {
     for number in part.first()..60 {
         let is_held = number < part.last() || number == part.last() && part != Part::Dow;
@@ -24,7 +24,7 @@ fn has_every(field: &Field, part: Part, step: u8) -> bool {
     true
 }
 
-/// The least such step.
+/// The least step of which the field has all numbers.
 fn step_of(field: &Field, part: Part) -> u8 {
     for step in 1..FIRST_ALONE {
         if has_every(field, part, step) {
@@ -34,7 +34,6 @@ fn step_of(field: &Field, part: Part) -> u8 {
     FIRST_ALONE
 }
 
-/// Adds a range of numbers behind a text.
 fn push_range(alloc: Global, text: &mut Vec<u8>, front: &[u8], first: u8, last: u8) -> Done {
     text.extend_from_slice(front)?;
     push_number(alloc, text, u128::from(first))?;
@@ -45,7 +44,7 @@ fn push_range(alloc: Global, text: &mut Vec<u8>, front: &[u8], first: u8, last: 
     Ok(())
 }
 
-/// Adds the field: `*` with a step, if it begins with `*`, and ranges of all other numbers.
+/// Adds `*` with a step, if the field began with `*`, and ranges of all other numbers.
 fn push_field(alloc: Global, text: &mut Vec<u8>, field: &Field, part: Part) -> Done {
     let mut front = b"".as_slice();
     let mut step = 0;
@@ -73,7 +72,6 @@ fn push_field(alloc: Global, text: &mut Vec<u8>, field: &Field, part: Part) -> D
     Ok(())
 }
 
-/// Adds five fields, or `@reboot`.
 pub(crate) fn push_schedule(alloc: Global, text: &mut Vec<u8>, when: &When) -> Done {
     let When::At(schedule) = when else {
         return text.extend_from_slice(b"@reboot");

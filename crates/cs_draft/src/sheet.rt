@@ -1,4 +1,4 @@
-//! Entries as they are drawn up.
+//! Drafts the entries of lines.
 
 use crate::given::time_of;
 use crate::layout::{COMMA, Done, ENTRY, add, add_members, add_number, add_text, begin};
@@ -21,18 +21,16 @@ use cs_schedule::Schedule;
 use serde_json::Value;
 use std::alloc::{AllocError, Global};
 
-/// What declarations are drawn up for.
 #[derive(Clone, Copy)]
 pub(crate) struct Asked<'a> {
-    /// The lines of the crontab, and their places.
+    /// The lines of the crontab, and their places in a gathered one.
     pub(crate) lines: &'a [Line],
     pub(crate) places: &'a [Place],
-    /// The longest time of a new job in minutes, and those that are given.
+    /// The longest time of a new job in minutes, and those that are given for some.
     pub(crate) max: u64,
     pub(crate) given: &'a [Given],
 }
 
-/// Whether the command sleeps for a time that it draws at random.
 fn sleeps_at_random(command: &[u8]) -> bool {
     behind_place(b"sleep", command).is_some()
         && (behind_place(b"rand", command).is_some()
@@ -40,7 +38,6 @@ fn sleeps_at_random(command: &[u8]) -> bool {
             || behind_place(b"shuf", command).is_some())
 }
 
-/// How declarations write a mode.
 fn mode_text(mode: Mode) -> &'static str {
     match mode {
         Mode::Plain => "none",
@@ -51,7 +48,7 @@ fn mode_text(mode: Mode) -> &'static str {
     }
 }
 
-/// The time that the line's entry has of what is given, if it has that; if it doesn't, why is told.
+/// The given time that the entry takes. Warns if one is given and not taken.
 fn time_given(
     alloc: Global,
     told: &mut Vec<u8>,
@@ -73,8 +70,8 @@ fn time_given(
     Ok(None)
 }
 
-/// Begins an entry, with the number of the line if it is to be told: no old entry is that of the line,
-/// or that told the number, or another line has the same command and schedule.
+/// Begins an entry, with the line's number if the entry is new, if the old one gave a number, or if
+/// another line has the same command and schedule.
 fn begin_entry(
     alloc: Global,
     entry: &mut Vec<u8>,
@@ -93,9 +90,8 @@ fn begin_entry(
     Ok(())
 }
 
-/// Adds the members that bind an entry to its line: the command, unless it isn't UTF-8, as no
-/// text of JSON is like it then; and the schedule, if the old entry told one, or another line
-/// has the command.
+/// Binds an entry to its line by its command, which JSON can't hold unless it is UTF-8, and by its
+/// schedule, if the old entry gave one or another line has the command.
 fn bind(
     alloc: Global,
     entry: &mut Vec<u8>,
@@ -131,7 +127,7 @@ fn bind(
     entry.extend_from_slice(b"\"")
 }
 
-/// The names of the parts of a line; none where declarations can't have them, which is told.
+/// The names of the line's parts. Warns if declarations can't have them.
 fn parts_told<'p>(
     alloc: Global,
     told: &mut Vec<u8>,
@@ -152,7 +148,7 @@ fn parts_told<'p>(
     Ok(parts)
 }
 
-/// Tells what the longest time of a new command may not hold.
+/// Warns of what the longest time of a new command may not cover.
 pub(crate) fn tell_times(
     alloc: Global,
     told: &mut Vec<u8>,
@@ -186,8 +182,8 @@ pub(crate) fn tell_times(
     }
 }
 
-/// Adds the entry of a new command, with the group and the mode of its lock, and with the default's
-/// times, where there is that.
+/// Adds the entry of a new command, with its lock's group and mode, and the default's terms if
+/// there is a default.
 pub(crate) fn add_new(
     alloc: Global,
     cron: &mut Vec<u8>,
@@ -227,7 +223,7 @@ pub(crate) fn add_new(
     cron.extend_from_slice(b"}")
 }
 
-/// Tells which parts came and which ones went.
+/// Notes new and missing parts.
 fn tell_parts(
     alloc: Global,
     told: &mut Vec<u8>,
@@ -267,7 +263,7 @@ fn tell_parts(
     Ok(())
 }
 
-/// Adds the longest time and the parts of an old entry, which has some: those that the table has.
+/// Adds the times of an old entry with parts: of the parts that the table has.
 fn add_kept_parts(
     alloc: Global,
     cron: &mut Vec<u8>,
@@ -296,8 +292,7 @@ fn add_kept_parts(
     add_parts(alloc, cron, items(value, "parts"), names, share)
 }
 
-/// Adds the entry of a command as it was declared, but for a time that is given, and parts that came or
-/// went.
+/// Adds an old entry, except for a given time, and parts that came or went.
 pub(crate) fn add_kept(
     alloc: Global,
     cron: &mut Vec<u8>,
@@ -334,7 +329,7 @@ pub(crate) fn add_kept(
     cron.extend_from_slice(b"}")
 }
 
-/// Leaves a line out, with the note of an old entry.
+/// Adds the line to `left_out`, with the note of its old entry.
 pub(crate) fn leave_out(
     alloc: Global,
     left_out: &mut Vec<u8>,

@@ -1,4 +1,4 @@
-//! The longest times of entries and of their parts, as they are laid out.
+//! The longest times of entries and of their parts.
 
 use crate::added::{brief_max, is_guess};
 use crate::layout::{COMMA, Done, add, add_members, add_number, add_text, begin};
@@ -16,7 +16,7 @@ use std::alloc::Global;
 
 const MOST: u128 = MAX_MINUTES as u128;
 
-/// Adds a part: as it was, or one of that name with that longest time.
+/// Copies the old part, or adds a new one of that name and time.
 fn add_part(
     alloc: Global,
     entry: &mut Vec<u8>,
@@ -28,15 +28,14 @@ fn add_part(
     if let Some(old) = old {
         add_members(alloc, entry, COMMA, old, ["name", "max", "note"].as_slice())?;
     } else {
-        // the names that comments of a table tell are ASCII
+        // names of parts in a table's comments are ASCII
         add_text(alloc, entry, "name", str::from_utf8(name).unwrap_or(""))?;
         add_number(alloc, entry, "max", share)?;
     }
     entry.extend_from_slice(b"}")
 }
 
-/// Adds parts of those names, of which the new ones have that longest time and the others are as they
-/// were.
+/// Adds parts of those names: the old ones as they were, new ones of `share` minutes.
 pub(crate) fn add_parts(
     alloc: Global,
     entry: &mut Vec<u8>,
@@ -52,7 +51,6 @@ pub(crate) fn add_parts(
     entry.extend_from_slice(b"]")
 }
 
-/// Adds the longest time of an entry in minutes, and whether it is a guess.
 pub(crate) fn add_max(alloc: Global, entry: &mut Vec<u8>, max: u64, is_guess: bool) -> Done {
     add_number(alloc, entry, "max", max)?;
     if is_guess {
@@ -61,7 +59,7 @@ pub(crate) fn add_max(alloc: Global, entry: &mut Vec<u8>, max: u64, is_guess: bo
     Ok(())
 }
 
-/// Tells that nobody has measured the longest times of the parts of a line.
+/// Notes that the times of the line's parts are not measured.
 fn tell_default(alloc: Global, told: &mut Vec<u8>, line: &Line, count: u64, share: u64) -> Done {
     let (part, each) = if count == 1 {
         ("part", "")
@@ -75,8 +73,8 @@ fn tell_default(alloc: Global, told: &mut Vec<u8>, line: &Line, count: u64, shar
     tell_of(alloc, told, "note: line ", number, what.as_str(), "", "")
 }
 
-/// Adds the longest time of a new command in minutes, and its parts: each has an equal share of a time
-/// that is brief, but at least one minute.
+/// Adds the times of a new command: its parts share the time to its next due minute equally, but
+/// each has at least one minute.
 pub(crate) fn add_new_times(
     alloc: Global,
     entry: &mut Vec<u8>,
@@ -105,7 +103,6 @@ pub(crate) fn add_new_times(
     add_parts(alloc, entry, &[], names, share)
 }
 
-/// Adds the longest time of an old entry, and its parts.
 pub(crate) fn add_old_times(alloc: Global, entry: &mut Vec<u8>, old: &Value) -> Done {
     add_members(alloc, entry, COMMA, old, ["max", "guess"].as_slice())?;
     if old.get("parts").is_none() {
@@ -118,8 +115,8 @@ pub(crate) fn add_old_times(alloc: Global, entry: &mut Vec<u8>, old: &Value) -> 
     entry.extend_from_slice(b"]")
 }
 
-/// The longest time of the new ones among parts of those names, which is the asked one or as many
-/// minutes as there is room for, and that of all; none where there is no room for a minute of each.
+/// The longest time of each new part, at most the asked one, and the sum for all parts; none where
+/// no minute is left for each.
 pub(crate) fn room_for(asked: u64, old: &[PartEntry], names: &[Bytes]) -> Option<(u64, u64)> {
     let (mut kept, mut new) = (0u128, 0u128);
     for name in names {

@@ -1,4 +1,4 @@
-//! What an operator has to know of a draft, a line each, in the order in which it is told.
+//! Warnings and notes for the operator, a line each, in the order of printing.
 ghost use Rattle.std.specs.Prelude.{◌≡◌, IfOk};
 ghost use Rattle.cs_draft.specs.Draft.{warning_of};
 
@@ -8,12 +8,11 @@ use cs_place::push_shown;
 use cs_table::text::first_line;
 use std::alloc::{AllocError, Global};
 
-/// The tables, as warnings name them.
+/// The names of the tables in warnings.
 pub(crate) const CRONTAB: &str = "crontab";
 
 pub(crate) const ANACRONTAB: &str = "anacrontab";
 
-/// How the warning begins that the command on a line of that table is declared without a lock.
 #[tactic(auto, unfolding(crate::specs::Draft::warning_of))]
 pub(crate) fn warning_of(alloc: Global, table: &[u8], number: u32) -> Result<Vec<u8>, AllocError>
     ensures { IfOk result (λ text. text.items ≡ warning_of table.now number) }
@@ -26,7 +25,6 @@ pub(crate) fn warning_of(alloc: Global, table: &[u8], number: u32) -> Result<Vec
     Ok(text)
 }
 
-/// Tells what these texts are together.
 pub(crate) fn tell(told: &mut Vec<u8>, front: &str, shown: &str, end: &str) -> Done {
     told.extend_from_slice(front.as_bytes())?;
     told.extend_from_slice(shown.as_bytes())?;
@@ -34,7 +32,7 @@ pub(crate) fn tell(told: &mut Vec<u8>, front: &str, shown: &str, end: &str) -> D
     told.extend_from_slice(b"\n")
 }
 
-/// Tells the same of a line, or of an entry, whose number stands behind the first text.
+/// Adds a line with a number, of a line or an entry, after `front`.
 pub(crate) fn tell_of(
     alloc: Global,
     told: &mut Vec<u8>,
@@ -49,7 +47,6 @@ pub(crate) fn tell_of(
     tell(told, behind, shown, end)
 }
 
-/// Warns of what the command on that line of that table has.
 pub(crate) fn warn(
     alloc: Global,
     told: &mut Vec<u8>,
@@ -69,7 +66,7 @@ pub(crate) fn warn(
     )
 }
 
-/// Passes on what the comments of a text of longest times warn of.
+/// Repeats the warnings in the comments of a text of longest times.
 pub(crate) fn remark(told: &mut Vec<u8>, remarks: &[u8]) -> Done {
     let mut rest = remarks;
     while !rest.is_empty() {

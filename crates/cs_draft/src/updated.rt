@@ -1,4 +1,4 @@
-//! The declarations of tables, beside those that there are already.
+//! Builds the text of an update.
 
 use crate::added::is_locked;
 use crate::given::job_time;
@@ -23,16 +23,16 @@ use cs_schedule::Schedule;
 use serde_json::Value;
 use std::alloc::{AllocError, Global};
 
-/// Why a command that names a program that locks files is declared without a lock.
+/// Why a command that names a program that locks files has no lock.
 const UNREAD: &str =
     " is declared without a lock: if it holds the lock of /run/x as long as it runs, \
     add \"group\": \"/run/x\", \"mode\": \"try\" to its entry, \
     and {\"name\": \"/run/x\", \"exclusive\": true} to \"groups\"";
 
-/// Why one is that would need another group.
+/// Why a command that takes a lock has none: no group is left.
 const FULL: &str = " is declared without a lock: its lock file would be group 65 of at most 64";
 
-/// The line that is new and the entry left behind, if the line may have that, and takes its lock.
+/// The new line that takes over the entry left behind, if the line may, and takes its lock.
 fn follower_of(
     alloc: Global,
     bound: &[Bound<'_>],
@@ -58,8 +58,8 @@ fn follower_of(
     Ok(None)
 }
 
-/// The entries so far, the names of the groups, in order of first use, what is told, and how many jobs
-/// have the default.
+/// The entries so far, the groups' names in order of first use, the warnings and notes, and how
+/// many jobs have the default.
 #[derive(Drop)]
 struct Sheet {
     names: Vec<String>,
@@ -71,7 +71,6 @@ struct Sheet {
     defaulted: u64,
 }
 
-/// Adds the groups as they were declared.
 fn add_groups(alloc: Global, names: &mut Vec<String>, groups: &mut Vec<u8>, old: &Value) -> Done {
     for group in items(old, "groups") {
         if let Some(name) = text_of(group, "name") {
@@ -85,7 +84,7 @@ fn add_groups(alloc: Global, names: &mut Vec<String>, groups: &mut Vec<u8>, old:
     Ok(())
 }
 
-/// Whether the file has a group now.
+/// Whether the file has a group, which is added where there is room.
 fn takes(
     alloc: Global,
     names: &mut Vec<String>,
@@ -109,9 +108,8 @@ fn takes(
 }
 
 impl Sheet {
-    /// Adds a line that has no old entry, whose command takes a lock or none, in that group, or tells why
-    /// in none. Where there is a default, it has no entry, unless it has a lock or a longest time of its
-    /// own.
+    /// Adds a line without an old entry, in that group or in none; `reason` is a warning, if not
+    /// empty. With a default, only a line with a lock or a given time gets an entry.
     fn add_locked(
         &mut self,
         alloc: Global,
@@ -144,7 +142,6 @@ impl Sheet {
         warn(alloc, &mut self.told, CRONTAB, number, reason)
     }
 
-    /// Adds a line that has no old entry, by the lock of its command.
     fn add_new(
         &mut self,
         alloc: Global,
@@ -229,8 +226,7 @@ impl Sheet {
         Ok(())
     }
 
-    /// Adds an anacron job: as it was declared but for a time that is given, or as a new one, unless
-    /// there is a default and no such time.
+    /// Adds a job's entry. A new job has none if there is a default and no given time.
     fn add_job(
         &mut self,
         alloc: Global,
@@ -262,7 +258,7 @@ impl Sheet {
 
     fn add_jobs(&mut self, alloc: Global, asked: Asked<'_>, old: Old<'_>, jobs: &[Job]) -> Done {
         for job in jobs {
-            // the identifiers of a table that was read are UTF-8
+            // identifiers of a table that was read are UTF-8
             if let Ok(identifier) = str::from_utf8(job.identifier()) {
                 self.add_job(alloc, asked, old, job, identifier)?;
             }
@@ -271,7 +267,7 @@ impl Sheet {
     }
 }
 
-/// Tells of the old entries that no line has.
+/// Notes old entries without a line.
 fn tell_gone(alloc: Global, told: &mut Vec<u8>, bound: &[Bound<'_>], pairs: &[Pair]) -> Done {
     for (i, entry) in bound.iter().enumerate() {
         if !has_line(pairs, i) {
@@ -282,7 +278,7 @@ fn tell_gone(alloc: Global, told: &mut Vec<u8>, bound: &[Bound<'_>], pairs: &[Pa
     Ok(())
 }
 
-/// Tells of the old entries of anacron jobs that are gone.
+/// Notes old entries of anacron jobs that are gone.
 fn tell_gone_jobs(alloc: Global, told: &mut Vec<u8>, jobs: &[Job], old: &Value) -> Done {
     for entry in items(old, "anacron") {
         if let Some(identifier) = text_of(entry, "id")
@@ -297,7 +293,6 @@ fn tell_gone_jobs(alloc: Global, told: &mut Vec<u8>, jobs: &[Job], old: &Value) 
     Ok(())
 }
 
-/// Tells how many jobs have the default.
 fn tell_defaulted(alloc: Global, told: &mut Vec<u8>, defaulted: u64) -> Done {
     match defaulted {
         0 => Ok(()),
@@ -309,7 +304,7 @@ fn tell_defaulted(alloc: Global, told: &mut Vec<u8>, defaulted: u64) -> Done {
     }
 }
 
-/// A draft doesn't declare the hours that the anacrontab sets.
+/// Notes that a draft ignores the hours of the anacrontab.
 fn tell_hours(told: &mut Vec<u8>, jobs: &Anacrontab) -> Done {
     for setting in jobs.settings() {
         if setting.name() == b"START_HOURS_RANGE".as_slice() {
@@ -320,7 +315,7 @@ fn tell_hours(told: &mut Vec<u8>, jobs: &Anacrontab) -> Done {
     Ok(())
 }
 
-/// Adds the members of declarations that are no lists, as they were declared.
+/// Copies the members that aren't lists.
 fn add_front(alloc: Global, text: &mut Vec<u8>, old: &Value) -> Done {
     let names = ["note", "capacity", "offset", "hours", "pass"];
     add_members(alloc, text, LINE, old, names.as_slice())?;
@@ -343,7 +338,6 @@ fn add_list(text: &mut Vec<u8>, name: &str, list: &[u8]) -> Done {
     text.extend_from_slice(b"\n  ]")
 }
 
-/// The text of declarations: the members that are no lists, as they were declared, and the sheet's lists.
 fn whole(alloc: Global, old: &Value, sheet: &Sheet) -> Result<Vec<u8>, AllocError> {
     let mut text = Vec::from_slice(alloc, b"{\n  ".as_slice())?;
     add_front(alloc, &mut text, old)?;
@@ -355,7 +349,7 @@ fn whole(alloc: Global, old: &Value, sheet: &Sheet) -> Result<Vec<u8>, AllocErro
     Ok(text)
 }
 
-/// The text of declarations, and what is told. The remarks are those of the longest times that are given.
+/// The new declarations, and the warnings and notes. The remarks are the text of longest times.
 pub(crate) fn updated_text(
     alloc: Global,
     asked: Asked<'_>,

@@ -1,4 +1,4 @@
-//! Whether the locks that declarations lack are warned of.
+//! Whether warnings name the new commands that lack a lock.
 ghost use Rattle.std.specs.Prelude.{◌≡◌, IfOk, IsTrue, codes, filter, map, true};
 ghost use Rattle.cs_table.specs.Text.{lines_of};
 ghost use Rattle.cs_draft.specs.Draft.{is_unlocked, is_unlocked_job, warn_of};
@@ -13,7 +13,6 @@ use cs_decl::Entries;
 use cs_table::text::first_line;
 use std::alloc::{AllocError, Global};
 
-/// Whether a new command names a program that locks files, isn't left out, and is in no group.
 #[tactic(auto, unfolding(crate::specs::Draft::is_unlocked))]
 fn is_unlocked(old: &Entries, entries: &Entries, line: &Line) -> bool
     ensures { result ≡ is_unlocked old.now entries.now line.now }
@@ -27,7 +26,6 @@ fn is_unlocked(old: &Entries, entries: &Entries, line: &Line) -> bool
     }
 }
 
-/// Whether a new anacron job names one.
 fn is_unlocked_job(old: &Entries, job: &Job) -> bool
     ensures { result ≡ is_unlocked_job old.now job.now }
 {
@@ -60,7 +58,6 @@ fn unlocked_jobs(alloc: Global, old: &Entries, jobs: &[Job]) -> Result<Vec<u32>,
         .collect(alloc)
 }
 
-/// Whether lines of the text warn of all these, in their order.
 #[tactic(auto, unfolding(crate::specs::Draft::warn_of, cs_table::specs::Text::lines_of))]
 fn warn_of(alloc: Global, table: &[u8], numbers: &[u32], text: &[u8]) -> Result<bool, AllocError>
     ensures { IfOk result (λ b. b ≡ warn_of table.now numbers.now (lines_of text.now)) }
@@ -81,7 +78,6 @@ fn warn_of(alloc: Global, table: &[u8], numbers: &[u32], text: &[u8]) -> Result<
     Ok(true)
 }
 
-/// Whether the text warns of the locks that what is new lacks.
 pub(crate) fn are_warned(
     alloc: Global,
     table: &Crontab,

@@ -4,7 +4,7 @@ use Rattle.std.specs.List.{find}
 use Rattle.cs_explain.specs.Odd.{is_alike}
 use Rattle.cs_explain.specs.declared.meaning.Meaning.{Meaning}
 
--- the name of the first meaning that is that of the word is the first name that the word means
+-- the name of the first meaning that fits the word is the first name that does
 pub name_of_found : (word : List ℕ) (meanings : List Meaning) → option_map (λ (m : Meaning). m.name.now) (find (λ (m : Meaning). is_alike word m.name.now) meanings) ≡ find (is_alike word) (map (λ (m : Meaning). m.name.now) meanings)
 name_of_found word [] = refl
 name_of_found word (m ∷ meanings) = by_first (is_alike word m.name.now) (name_of_found word meanings)

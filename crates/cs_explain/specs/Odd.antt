@@ -3,7 +3,7 @@ use Rattle.std.specs.Prelude.{ℕ, Bool, List, [], ◌∷◌, Option, codes}
 use Rattle.std.specs.List.{find}
 use Rattle.std.specs.Str.{str_eq_ignore_ascii_case}
 
--- these, in the order in which they are listed
+-- in the order of the list
 unfoldable pub odd_names : List (List ℕ)
 odd_names =
     codes "EachMinute" ∷ codes "UnevenStep" ∷ codes "BothDays" ∷ codes "SixthField" ∷
@@ -13,10 +13,9 @@ odd_names =
     codes "UnusedGroup" ∷ codes "OtherLock" ∷ codes "MixedLocks" ∷ codes "NoOwnLock" ∷
     codes "RebootLock" ∷ codes "ShortMax" ∷ codes "NoWhen" ∷ []
 
--- the word is that name, but for the case of its letters
+-- the same name, in any letter case
 abbrev pub is_alike : List ℕ → List ℕ → Bool
 is_alike word name = str_eq_ignore_ascii_case name word
 
--- the name that the word is so
 abbrev pub odd_named : List ℕ → Option (List ℕ)
 odd_named word = find (is_alike word) odd_names

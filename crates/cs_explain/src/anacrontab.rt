@@ -1,4 +1,4 @@
-//! What the faults of an anacrontab mean (`anacrontab(5)`, and the limits of this profile).
+//! The faults of an anacrontab (`anacrontab(5)`, and the limits of this profile).
 use crate::meaning::Meaning;
 
 /// In the order of their numbers.

@@ -9,8 +9,7 @@ use cs_civil::Bytes;
 use cs_files::Response;
 use std::alloc::{AllocError, Global};
 
-/// What is printed where nothing has the name, with the nearest one that something has, if any is
-/// near.
+/// The message where nothing has the name, with the nearest name, if any is near.
 pub fn no_such_name(
     alloc: Global,
     name: &str,
@@ -25,7 +24,7 @@ pub fn no_such_name(
     Ok(text.into_bytes())
 }
 
-/// The answer to `explain [NAME]`. The only error is out of memory.
+/// Answers `explain [NAME]`. The only error is out of memory.
 pub fn answer_explain(alloc: Global, name: Option<&str>) -> Result<Response, AllocError>
     ensures { IfOk result IsExplained }
 {

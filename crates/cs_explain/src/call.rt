@@ -1,4 +1,4 @@
-//! What the faults of a date, a longest time and catch-up hours among the words of a call mean.
+//! The faults of a date, a longest time and catch-up hours in the words of a call.
 use crate::meaning::Meaning;
 
 /// In the order of their numbers.

@@ -1,4 +1,4 @@
-//! What the faults of a certificate's text mean.
+//! The faults of a certificate's text.
 use crate::meaning::Meaning;
 
 /// In the order of their numbers.

@@ -1,4 +1,4 @@
-//! What the faults of a crontab mean (`crontab(5)`, and the limits of this profile).
+//! The faults of a crontab (`crontab(5)`, and the limits of this profile).
 use crate::meaning::Meaning;
 
 /// In the order of their numbers.

@@ -1,4 +1,4 @@
-//! What the faults of declarations mean, of their bytes and beside the tables.
+//! The faults of declarations, by themselves and beside the tables.
 use crate::meaning::Meaning;
 
 /// In the order of their numbers.

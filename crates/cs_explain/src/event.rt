@@ -1,4 +1,4 @@
-//! What the refusals of an event by `replay` mean.
+//! The refusals of an event by `replay`.
 use crate::meaning::Meaning;
 
 /// In the order of their numbers.

@@ -1,25 +1,25 @@
-//! The name that a name with a slip in it may be meant for.
+//! The name that may be meant by a misspelt one.
 use crate::kind::Kind;
 use std::alloc::{AllocError, Global};
 use strsim::levenshtein;
 
-/// By how many edits a name may be off at most.
+/// The most edits between a name and the one that may be meant.
 const MOST_EDITS: usize = 2;
 
-/// And of how many of its bytes one may be off.
+/// Each edit needs so many bytes of the name.
 const BYTES_OF_AN_EDIT: usize = 3;
 
-/// The length in bytes past which a name is near to none.
+/// The longest name that is compared, in bytes.
 const LONGEST_NAME: usize = 40;
 
-/// The best guess so far: the fewest edits that lead to a name, and the name.
+/// The best guess so far: the name with the fewest edits.
 #[derive(Clone, Copy)]
 struct Guess {
     edits: usize,
     name: Option<&'static str>,
 }
 
-/// The better one of a guess and the names of a kind. The name that is sought is in small letters.
+/// The better one of a guess and the names of a kind; `sought` is in lower case.
 fn guess_among(alloc: Global, sought: &str, kind: Kind, first: Guess) -> Result<Guess, AllocError> {
     let mut guess = first;
     for meaning in kind.meanings() {
@@ -35,10 +35,9 @@ fn guess_among(alloc: Global, sought: &str, kind: Kind, first: Guess) -> Result<
     Ok(guess)
 }
 
-/// The name of one of these kinds that at most 2 edits lead to from this one, and no more than one
-/// for each 3 of its bytes. An edit puts, takes or changes a letter. Of several it is the one with
-/// the fewest, of those the first in the order of [`names`](crate::names). None where there is none,
-/// or the name is longer than 40 bytes. Case doesn't matter. The only error is out of memory.
+/// The nearest of these kinds' names: at most 2 edits away, and at most one for each 3 bytes of the
+/// given name, which has at most 40. An edit inserts, drops or changes a letter; of several names
+/// the first in the order of [`names`](crate::names) counts. Case doesn't matter.
 pub(crate) fn nearest(
     alloc: Global,
     name: &str,
@@ -58,7 +57,8 @@ pub(crate) fn nearest(
     Ok(guess.name)
 }
 
-/// The nearest of the names of what `lint` calls odd, as [`nearest`] has it.
+/// The nearest name of what `lint` calls odd, as [`nearest`] finds it. The only error is out of
+/// memory.
 pub fn nearest_odd(alloc: Global, name: &str) -> Result<Option<&'static str>, AllocError> {
     nearest(alloc, name, &[Kind::Odd])
 }

@@ -8,7 +8,7 @@ use crate::{
     unknown,
 };
 
-/// A kind of input or answer. Each has names of its own; some of them other kinds have too.
+/// A kind of input or answer. Several kinds may have the same name.
 #[derive(Clone, Copy)]
 pub(crate) enum Kind {
     Crontab,
@@ -24,7 +24,7 @@ pub(crate) enum Kind {
     Odd,
 }
 
-/// All kinds, in the order in which they are listed.
+/// In the order of the list.
 pub(crate) const KINDS: [Kind; 11] = [
     Kind::Crontab,
     Kind::System,
@@ -39,7 +39,7 @@ pub(crate) const KINDS: [Kind; 11] = [
     Kind::Odd,
 ];
 
-/// The lines above the names of each kind, in the same order.
+/// The lines above their names, in the same order.
 const HEADINGS: [&str; 11] = [
     "In a crontab:",
     "In a system table:",
@@ -58,12 +58,11 @@ const HEADINGS: [&str; 11] = [
 const FIRST_OF_SYSTEM: usize = 13;
 
 impl Kind {
-    /// The line above its names.
     pub(crate) fn heading(self) -> &'static str {
         HEADINGS[self as usize]
     }
 
-    /// Its names with what they mean, in the order of their numbers.
+    /// Its names with their meanings, in the order of their numbers.
     #[tactic(auto, unfolding(crate::specs::Odd::odd_names))]
     pub(crate) fn meanings(self) -> &'static [Meaning]
         ensures { self ≡ Kind.Odd → map (λ meaning. meaning.name.now) result.now ≡ odd_names }
@@ -83,8 +82,8 @@ impl Kind {
         }
     }
 
-    /// The one that messages print with that number. Those of longest times and hours on the command
-    /// line are those of declarations; reasons and what is odd have none.
+    /// The name that messages print with that number. Longest times and hours in a call have the
+    /// numbers of declarations; reasons and oddities have none.
     pub(crate) fn numbered(self, number: usize) -> Option<&'static Meaning> {
         let place = match self {
             Kind::Unknown | Kind::Odd => None,

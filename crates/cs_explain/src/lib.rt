@@ -1,4 +1,4 @@
-//! What the names of faults and refusals mean, with a wrong and a right example of each.
+//! Explains the names of faults, refusals and oddities, each with a wrong and a right example.
 #![tactic(auto)]
 
 mod anacrontab;

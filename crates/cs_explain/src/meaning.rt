@@ -1,14 +1,13 @@
-//! A name that the program prints, and what it means.
-/// A name that the program prints of one kind of input, and what it means.
+/// A name that the program prints about one kind of input, and its meaning.
 #[derive(Clone, Copy)]
 pub(crate) struct Meaning {
-    /// The name, as `OutOfField`.
+    /// The name, such as `OutOfField`.
     pub(crate) name: &'static str,
-    /// What it means in a few words, those of the tables of docs/DEFINITIONS.md.
+    /// The meaning in a few words, as in the tables of docs/DEFINITIONS.md.
     pub(crate) short: &'static str,
-    /// What it comes from and what to change, in lines of at most 80 columns, without the last
-    /// newline. An example stands after lines `wrong:` and `right:`, two columns in, and before it
-    /// the files that it stands beside, each after a line such as `crontab:`. Where it is of
-    /// another kind of file than the name, these lines say so: `wrong crontab:`.
+    /// The cause and what to change, in lines of at most 80 columns, without the last newline. An
+    /// example follows the lines `wrong:` and `right:`, two columns in; before it are the files
+    /// that go with it, each after a line such as `crontab:`. If it is of another kind of file than
+    /// the name, these lines are `wrong crontab:` and so on.
     pub(crate) text: &'static str,
 }

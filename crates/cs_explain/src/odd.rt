@@ -1,7 +1,7 @@
-//! What the names mean of what `lint` calls odd (`crontab(5)`, and Debian's cron).
+//! What `lint` calls odd (`crontab(5)`, and Debian's cron).
 use crate::meaning::Meaning;
 
-/// By what they are about: schedules, commands, settings, lines, the table, declarations.
+/// In the order of subjects: schedules, commands, settings, lines, the table, declarations.
 pub(crate) static MEANINGS: [Meaning; 23] = [
     Meaning {
         name: "EachMinute",

@@ -1,4 +1,4 @@
-//! What the rules mean by which a certificate is refused.
+//! The rules by which a certificate is refused.
 use crate::meaning::Meaning;
 
 /// In the order of their numbers.

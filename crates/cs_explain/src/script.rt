@@ -1,4 +1,4 @@
-//! What the faults of a script of `replay` mean.
+//! The faults of a script of `replay`.
 use crate::meaning::Meaning;
 
 /// In the order of their numbers.

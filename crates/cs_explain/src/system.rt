@@ -1,4 +1,4 @@
-//! What the faults of a system table mean, besides those of a crontab (`crontab(5)`).
+//! The faults of a system table, besides those of a crontab (`crontab(5)`).
 use crate::meaning::Meaning;
 
 /// In the order of their numbers.

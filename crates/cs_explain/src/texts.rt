@@ -7,8 +7,7 @@ use crate::kind::{KINDS, Kind};
 use crate::meaning::Meaning;
 use std::alloc::{AllocError, Global};
 
-/// Writes the line above the names of a kind after the text, with an empty line before it where
-/// there is text.
+/// Adds the line above the names of a kind, with an empty line before it if the text has others.
 fn push_heading(text: &mut String, kind: Kind) -> Result<(), AllocError> {
     if !text.is_empty() {
         text.push_str("\n")?;
@@ -17,7 +16,6 @@ fn push_heading(text: &mut String, kind: Kind) -> Result<(), AllocError> {
     text.push_str("\n")
 }
 
-/// Adds a line of this front, a name and its short meaning to the text.
 fn push_line(text: &mut String, front: &str, meaning: &Meaning) -> Result<(), AllocError> {
     text.push_str(front)?;
     text.push_str(meaning.name)?;
@@ -26,7 +24,6 @@ fn push_line(text: &mut String, front: &str, meaning: &Meaning) -> Result<(), Al
     text.push_str("\n")
 }
 
-/// The one of these meanings that is that of the name; none where there is none.
 fn meaning_of<'a>(meanings: &'a [Meaning], name: &str) -> Option<&'a Meaning>
     ensures { option_map (λ meaning. meaning.now) result
         ≡ find (λ meaning. is_alike name.now meaning.name.now) meanings.now }
@@ -36,7 +33,7 @@ fn meaning_of<'a>(meanings: &'a [Meaning], name: &str) -> Option<&'a Meaning>
         .find(|meaning| meaning.name.eq_ignore_ascii_case(name))
 }
 
-/// Writes the names of a kind after the text, each with its short meaning in a line of its own.
+/// Adds the names of a kind, each with its short meaning on a line of its own.
 fn push_names(text: &mut String, kind: Kind) -> Result<(), AllocError> {
     push_heading(text, kind)?;
     for meaning in kind.meanings() {
@@ -45,8 +42,8 @@ fn push_names(text: &mut String, kind: Kind) -> Result<(), AllocError> {
     Ok(())
 }
 
-/// The names that messages print with that number, each with its short meaning, under the line for
-/// its kind. Nothing where it's no number.
+/// The names that messages print with that number, each with its short meaning, by kind. Empty for
+/// a word that is no number.
 fn names_numbered(alloc: Global, number: &str) -> Result<String, AllocError> {
     let mut text = String::new(alloc);
     let value = number.parse::<usize>().unwrap_or(0);
@@ -60,10 +57,10 @@ fn names_numbered(alloc: Global, number: &str) -> Result<String, AllocError> {
     Ok(text)
 }
 
-/// What the name of a fault, a refusal or a reason of `unknown` means, in lines of at most 80
+/// Explains the name of a fault, a refusal or a reason of `unknown`, in lines of at most 80
 /// columns: a paragraph for each kind of input or answer that has the name, with a wrong and a
-/// right example where there is one. Of a number a line for each name that is printed with it. None
-/// where nothing has it. Case doesn't matter. The only error is out of memory.
+/// right example if there is one. A number gets a line for each name that is printed with it. None
+/// if nothing has the name. Case doesn't matter. The only error is out of memory.
 pub fn explain(alloc: Global, name: &str) -> Result<Option<String>, AllocError> {
     let mut text = names_numbered(alloc, name)?;
     for kind in KINDS {
@@ -80,8 +77,7 @@ pub fn explain(alloc: Global, name: &str) -> Result<Option<String>, AllocError> 
     Ok(Some(text))
 }
 
-/// The name as it is listed among those of what `lint` calls odd; none where it isn't. Case
-/// doesn't matter.
+/// The name in the list of what `lint` calls odd. Case doesn't matter.
 pub fn odd_name(name: &str) -> Option<&'static str>
     ensures { option_map (λ found. found.now) result ≡ odd_named name.now }
 {
@@ -89,8 +85,8 @@ pub fn odd_name(name: &str) -> Option<&'static str>
     Some(meaning.name)
 }
 
-/// All names, a line each with a short meaning, under a line for each kind of input or answer. The
-/// only error is out of memory.
+/// All names, a line each with a short meaning, by kind of input or answer. The only error is out
+/// of memory.
 pub fn names(alloc: Global) -> Result<String, AllocError> {
     let mut text = String::new(alloc);
     for kind in KINDS {

@@ -1,4 +1,4 @@
-//! What the reasons of the answer `unknown` of `judge` and `make` mean.
+//! The reasons of the answer `unknown` of `judge` and `make`.
 use crate::meaning::Meaning;
 
 /// In the order of their numbers.

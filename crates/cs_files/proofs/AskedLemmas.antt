@@ -1,4 +1,4 @@
--- What the files of a call gave, and what is answered of it.
+-- What the files of a call gave, and the answer.
 use Rattle.std.proofs.Common.{◌≡◌, ◌≢◌, ◌∙◌, ap, append-nil, inl, inr, refl, sym, subst, ℕ, List, [], Option, Some, None, IfSome, Result, Err, option_map}
 use Rattle.std.specs.Io.KnownBytes.{Appends}
 use Rattle.std.proofs.lemmas.Option.{IfSome_then}
@@ -10,7 +10,6 @@ use Rattle.cs_files.specs.Trouble.{IsOfContent, Trouble, ends, trouble, trouble_
 use Rattle.cs_files.specs.declared.fault.Fault.{Fault}
 use Rattle.cs_files.proofs.TroubleLemmas.{some_is}
 
--- nothing is written
 pub tries_nothing : (s : Sink) → Tries [] s s
 tries_nothing s = inr (record { appended = keeps s.contents; fine = refl })
   where

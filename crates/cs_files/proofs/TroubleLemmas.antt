@@ -1,4 +1,4 @@
--- What is answered of a fault.
+-- The answer to a fault.
 use Rattle.std.proofs.Common.{◌≡◌, ◌≤◌, ◌⊎◌, ◌∙◌, ℕ, Bool, true, false, List, [], ◌++◌, Option, Some, None, IfSome, Result, Ok, Err, length, nat_lt, option_map, inl, inr, refl, sym, ap, subst, arith}
 use Rattle.std.proofs.lemmas.Bool.{lt-ltb}
 use Rattle.clap.specs.Words.{Text}
@@ -32,7 +32,6 @@ use Rattle.cs_files.specs.Response.{Ending, complaint}
 use Rattle.cs_files.specs.Trouble.{CameTo, InDeclarations, IsFaultOf, IsHonest, IsHonestOf, IsUnread, TellsPath, Trouble, declared_trouble, ends, trouble, trouble_status, trouble_text}
 use Rattle.cs_files.specs.declared.fault.Fault.{Fault}
 
--- what is there is the same
 pub some_is : {X : Type 0} (x y : X) → Some x ≡ Some y → x ≡ y
 some_is x y e = cc
 
@@ -178,9 +177,8 @@ stops first next before after e = by_trouble (trouble e)
 pub moved : (P : (List ℕ → Option (List ℕ)) → Failed → Type 0) (w v : List ℕ → Option (List ℕ)) (f g : Failed) → w ≡ v → f ≡ g → P w f → P v g
 moved P w v f g same kept h = subst (λ (b : Failed). P v b) kept (subst (λ (o : List ℕ → Option (List ℕ)). P o f) same h)
 
--- ---- behind what is to be warned of
+-- ---- after warnings
 
--- a fault that is told
 pub honest_fault : (failed : Failed) (reads : Reads) (w : List ℕ) (e : Fault) (r : Ending) → IsHonestOf failed reads e → option_map (ends w) (trouble e) ≡ Some r → IsHonest failed reads r
 honest_fault failed reads w e r = by_trouble (trouble e)
   where

@@ -3,7 +3,6 @@ use Rattle.std.proofs.Common.{List, [], ◌∷◌, ◌++◌, Some, None, refl, s
 use Rattle.clap.specs.Words.{Text}
 use Rattle.cs_io.specs.Files.{AreReadInTurn, IsReadAlone, IsReadOn, Reads}
 
--- nothing was read
 not_read : (path : Text) (r : Reads) → IsReadOn path 0 r r
 not_read path None = refl
 not_read path (Some paths) = refl
@@ -12,7 +11,6 @@ pub none_read : (paths : List Text) (r : Reads) → AreReadInTurn paths r r
 none_read [] r = refl
 none_read (path ∷ paths) r = (r, (0, not_read path r), none_read paths r)
 
--- the first alone
 pub first_read : (path : Text) (paths : List Text) (old new : Reads) → IsReadAlone path old new → AreReadInTurn (path ∷ paths) old new
 first_read path paths old new alone = (new, alone, none_read paths new)
 

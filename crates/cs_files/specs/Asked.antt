@@ -1,5 +1,4 @@
--- What the files of a call gave, what is to be warned of before an answer is worked out, and what is
--- answered.
+-- What the files of a call gave, the warnings before an answer is worked out, and the answer.
 use Rattle.std.specs.Prelude.{◌≡◌, ◌⊎◌, ℕ, List, [], Option, Result, Ok, Err}
 use Rattle.clap.specs.Words.{Text}
 use Rattle.cs_crontab.specs.Crontab.{Table}
@@ -25,19 +24,18 @@ AreWarnings files table anacrontab before warnings =
     (both : Table × JobTable) × ReadsTables files table anacrontab before before (Ok both)
     × (warnings ≡ warnings_text both.0 both.1)
 
--- nothing is warned of as long as nothing but the tables was read; then the warnings of both tables
+-- no warnings while only the tables were read; then those of both tables
 abbrev pub Warns : (List ℕ → Option (List ℕ)) → Text → Option Text → Failed → Reads → Reads
     → List ℕ → Type 0
 Warns files table anacrontab before old new w =
     ((w ≡ []) × AreReadInTurn (table_paths table anacrontab) old new)
     ⊎ AreWarnings files table anacrontab before w
 
--- both tables
 abbrev pub both_of : Tables → Table × JobTable
 both_of tables = (tables.crontab, tables.jobs)
 
--- the files denote these tables, of which the crontab has this text and these places, and this is
--- what is to be warned of
+-- the files denote these tables; the crontab has this text and these places, and these are the
+-- warnings
 pub record AreTables (files : List ℕ → Option (List ℕ)) (table : Text) (anacrontab : Option Text)
     (w : List ℕ) (failed : Failed) (tables : Tables) : Type 0 where
   pub read : ReadsTables files table anacrontab failed failed (Ok (both_of tables))
@@ -45,7 +43,7 @@ pub record AreTables (files : List ℕ → Option (List ℕ)) (table : Text) (an
   pub places : tables.places ≡ places_of tables.text tables.crontab
   pub warned : w ≡ warnings_text tables.crontab tables.jobs
 
--- both tables, each read in its turn, or the first fault, before which nothing is warned of
+-- both tables, each read in its turn, or the first fault, before which there are no warnings
 abbrev pub FindsTables : (List ℕ → Option (List ℕ)) → Text → Option Text → List ℕ → Failed → Failed
     → Result Tables Trouble → Type 0
 FindsTables files table anacrontab w before after (Ok tables) =
@@ -76,7 +74,7 @@ FindsPlan files table anacrontab declarations w before after (Err t) =
     ⊎ ((tables : Tables) × AreTables files table anacrontab w before tables
     × ReadsFitting files tables.places (both_of tables) declarations before after (Err t))
 
--- the files are read, and this is answered of what they gave, or of the first fault
+-- the files are read, and the answer is that to what they gave, or to the first fault
 abbrev pub Answers : {X : Type 0} → (Failed → Failed → Result X Trouble → Type 0)
     → (X → Ending → Type 0) → Failed → Failed → Ending → Type 0
 Answers Finds Is before after ending =

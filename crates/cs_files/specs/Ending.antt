@@ -8,7 +8,6 @@ pub record Sink : Type 0 where
   pub contents : Option (List ℕ)
   pub failed : Bool
 
--- an output that holds these bytes, and whether a write has failed
 abbrev pub sink : Option (List ℕ) → Bool → Sink
 sink contents failed = record { contents = contents; failed = failed }
 
@@ -21,8 +20,8 @@ pub record Writes (text : List ℕ) (old new : Sink) : Type 0 where
 abbrev pub Tries : List ℕ → Sink → Sink → Type 0
 Tries text old new = (new.failed ≡ true) ⊎ Writes text old new
 
--- an ending is carried out: what goes to standard error is written if it can be, and the status is
--- answered where its text was written to standard output, else that of a failed device
+-- an ending is carried out: standard error is written if it can be; the status is the ending's
+-- where its text was written to standard output, else that of a failed device
 abbrev pub Ends : Ending → Sink → Sink → Sink → Sink → ℕ → Type 0
 Ends ending out-old out-new err-old err-new status =
     Tries ending.err err-old err-new

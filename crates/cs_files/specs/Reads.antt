@@ -25,8 +25,8 @@ use Rattle.cs_files.specs.Trouble.{InAnacrontab, InCrontab, InDeclarations, Tell
 use Rattle.cs_files.specs.Trouble.{trouble}
 use Rattle.cs_files.specs.declared.fault.Fault.{Fault}
 
--- Each step says of which paths reads had failed before it, of which they have after it, and what it
--- gave.
+-- Each step says of which paths reads had failed before it, of which they have after it, and what
+-- it gave.
 
 -- the file at a path means a value; or it could not be read, or has a fault. Where its bytes are
 -- not known nothing is said of their meaning.
@@ -72,18 +72,15 @@ abbrev pub MeansTable : List ℕ → Result Table ((FoundIn LineFault × Bool) �
 MeansTable text (Ok table) = Means text (Ok table)
 MeansTable text (Err ((fault, are_jobs), lines)) = Means text (Err fault) × HoldsJobs text are_jobs
 
--- a text denotes an anacrontab; or it has a first fault
 abbrev pub MeansJobTable : List ℕ → Result JobTable (FoundIn JobFault × List ℕ) → Type 0
 MeansJobTable text (Ok jobs) = MeansJobs text (Ok jobs)
 MeansJobTable text (Err (fault, lines)) = MeansJobs text (Err fault)
 
--- the anacrontab, if there is one
 abbrev pub ReadsJobs : (List ℕ → Option (List ℕ)) → Option Text → Failed → Failed
     → Result JobTable Trouble → Type 0
 ReadsJobs files None = Gives (Ok no_jobs)
 ReadsJobs files (Some path) = ReadsAs files path MeansJobTable InAnacrontab
 
--- both tables
 abbrev pub ReadsTables : (List ℕ → Option (List ℕ)) → Text → Option Text → Failed → Failed
     → Result (Table × JobTable) Trouble → Type 0
 ReadsTables files table anacrontab = AndThen (ReadsAs files table MeansTable InCrontab)
@@ -105,13 +102,12 @@ PlacesIn files path table places = IfSome (files path) (λ bytes. places ≡ pla
 abbrev pub planned : Result Declared DeclaredFault → Result Declared Trouble
 planned plan = result_map_both (λ p. p) (λ fault. InDeclarations (fault, [])) plan
 
--- nothing is read, and a plan is made, or it's said for which fault of declarations there is none
+-- nothing is read, and a plan is made, or the fault of the declarations is given
 abbrev pub Makes : Result Declared DeclaredFault → Failed → Failed → Result Declared Trouble → Type 0
 Makes (Ok plan) before after r = (after ≡ before) × (r ≡ Ok plan)
 Makes (Err fault) before after r =
     (after ≡ before) × ((lines : List ℕ) × (r ≡ Err (InDeclarations (fault, lines))))
 
--- a text denotes declarations; or they have a first fault
 abbrev pub MeansEntries : List ℕ → Result Entries (DeclaredFault × List ℕ) → Type 0
 MeansEntries text (Ok d) = declared_by text ≡ Ok d
 MeansEntries text (Err (fault, lines)) = declared_by text ≡ Err fault
@@ -132,7 +128,6 @@ FittingIn files path places tables plan text =
     ((d : Entries) × (declared_by text ≡ Ok d) × (fitting places tables d ≡ Ok plan))
     × IfSome (files path) (λ bytes. text ≡ bytes)
 
--- the plan that the declarations at a path make
 abbrev pub ReadsPlan : (Entries → Result Declared DeclaredFault) → (List ℕ → Option (List ℕ))
     → Text → Failed → Failed → Result Declared Trouble → Type 0
 ReadsPlan made files path = AndThen (ReadsEntries files path) (λ d. Makes (made d))

@@ -3,13 +3,11 @@ use Rattle.std.specs.Prelude.{ℕ, List, ◌∷◌, ◌++◌, [], codes}
 use Rattle.cs_files.specs.declared.response.Status.{Status}
 use Rattle.cs_files.specs.declared.response.Status.TheVariants.{Done, Refused, Unknown, BadInput, NoCall, NoMemory, DeviceFailed}
 
--- a status, what is written to standard output, and what to standard error
 pub record Ending : Type 0 where
   pub status : ℕ
   pub out : List ℕ
   pub err : List ℕ
 
--- the statuses
 abbrev pub status_of : Status → ℕ
 status_of Done = 0
 status_of Refused = 1
@@ -23,6 +21,6 @@ status_of DeviceFailed = 6
 unfoldable pub complaint : List ℕ → List ℕ
 complaint fault = codes "cronsafe: " ++ (fault ++ 10 ∷ [])
 
--- what is asked was done, and this is to be warned of
+-- the call was done, with these warnings
 abbrev pub done : List ℕ → List ℕ → Ending
 done text warnings = record { status = 0; out = text; err = warnings }

@@ -1,4 +1,4 @@
--- Why a call ends before all of it was done, and what is answered of it.
+-- Why a call ends before all of it was done, and the answer to that.
 use Rattle.std.specs.Prelude.{◌≡◌, ◌≢◌, ◌⊎◌, ℕ, Bool, true, false, List, [], ◌++◌, Option, Some, None, IfSome}
 use Rattle.std.specs.Prelude.{Result, Ok, Err, codes, decimal, option_map}
 use Rattle.clap.specs.Words.{Text}
@@ -36,8 +36,8 @@ use Rattle.cs_files.specs.declared.fault.Fault.TheVariants.{Crontab, Declaration
 use Rattle.cs_files.specs.declared.fault.Fault.TheVariants.{Gathered, NoZone, Script, Words}
 
 -- why a call ends: its words hold a fault, this path can't be read, what was read holds a fault, or
--- what is at this path is no time zone. Of a crontab it is said too whether it reads as an
--- anacrontab. Of tables and declarations there are lines that show the place, and what is wrong there:
+-- what is at this path isn't a time zone. A crontab's fault says too whether it reads as an
+-- anacrontab. Tables and declarations have lines that show the place and what is wrong there;
 -- `lint` prints them too.
 pub data Trouble : Type 0 where
   InWords : WordFault → Trouble
@@ -50,7 +50,7 @@ pub data Trouble : Type 0 where
   InCertificate : CertFault → Trouble
   NoTimeZone : Text → Trouble
 
--- `crontab line 2: 5 BadNumber`: the line with a fault, or 0 for all of the crontab, and the fault
+-- `crontab line 2: 5 BadNumber`; line 0 is all of the crontab
 abbrev pub crontab_line : Found LineFault → List ℕ
 crontab_line fault =
     codes "crontab line " ++ (decimal fault.line ++ (codes ": " ++ crontab_fault_text fault.fault))
@@ -60,7 +60,6 @@ abbrev pub jobs_hint : Bool → List ℕ
 jobs_hint true = codes "\ncronsafe: the table reads as an anacrontab: give it with --anacrontab"
 jobs_hint false = []
 
--- and of an anacrontab
 abbrev pub anacrontab_line : Found JobFault → List ℕ
 anacrontab_line fault =
     codes "anacrontab line " ++ (decimal fault.line ++ (codes ": " ++ anacrontab_fault_text fault.fault))
@@ -74,7 +73,6 @@ gathered_line path fault = (path ++ codes " line ")
 abbrev pub certificate_line : CertFault → List ℕ
 certificate_line fault = codes "certificate: " ++ certificate_fault_text fault
 
--- `PATH: no time zone file`
 abbrev pub no_zone_line : Text → List ℕ
 no_zone_line path = path ++ codes ": no time zone file"
 
@@ -95,7 +93,6 @@ word_hint BadMax = codes "\ncronsafe: the longest time is from 1 to 4320 minutes
 word_hint BadHours =
     codes "\ncronsafe: --from is from 0 on and below --to, which is at most 1440"
 
--- what is said of it
 abbrev pub trouble_text : Trouble → List ℕ
 trouble_text (InWords fault) = word_fault fault ++ word_hint fault
 trouble_text (Unread path reason) = codes "can't read " ++ (path ++ reason_text reason)
@@ -119,17 +116,16 @@ trouble_status (InScript fault) = 3
 trouble_status (InCertificate fault) = 3
 trouble_status (NoTimeZone path) = 3
 
--- what is answered of it, after what is to be warned of
+-- the answer to it, after these warnings
 abbrev pub ends : List ℕ → Trouble → Ending
 ends warnings t =
     record { status = trouble_status t; out = []; err = warnings ++ complaint (trouble_text t) }
 
--- the lines that show a fault, if there are any
 abbrev pub lines_in : Option (List ℕ) → List ℕ
 lines_in None = []
 lines_in (Some lines) = lines
 
--- what a fault says with such lines, unless it is out of memory
+-- what a fault says with such lines; nothing if it is out of memory
 abbrev pub table_trouble : TableFault LineFault → Bool → List ℕ → Option Trouble
 table_trouble (table_fault.At line column size fault) are_jobs lines = Some (InCrontab
     ((record { line = line; column = column; size = size; fault = fault }, are_jobs), lines))

@@ -3,18 +3,16 @@ use Rattle.std.specs.Prelude.{◌≡◌, ◌++◌, List, [], ◌∷◌, Option, 
 use Rattle.clap.specs.Words.{Text}
 use Rattle.cs_io.specs.Files.{AreReadInTurn, Reads}
 use Rattle.cs_args.specs.Asked.{AskedChart, AskedCheck, AskedDraft, AskedGather, AskedJudge}
-use Rattle.cs_args.specs.Asked.{AskedLearn, AskedLint, AskedReplay}
+use Rattle.cs_args.specs.Asked.{AskedLint, AskedReplay}
 
--- the path of a file that may be left out
+-- the path of a file that needn't be given
 abbrev pub some_path : Option Text → List Text
 some_path None = []
 some_path (Some path) = path ∷ []
 
--- both tables
 abbrev pub table_paths : Text → Option Text → List Text
 table_paths table anacrontab = table ∷ some_path anacrontab
 
--- and then the declarations
 abbrev pub plan_paths : Text → Option Text → Text → List Text
 plan_paths table anacrontab declarations = table_paths table anacrontab ++ (declarations ∷ [])
 
@@ -30,9 +28,6 @@ judge_paths a = plan_paths a.table a.anacrontab a.declarations
 
 abbrev pub draft_paths : AskedDraft → List Text
 draft_paths a = table_paths a.table a.anacrontab ++ (some_path a.update ++ some_path a.maxes)
-
-abbrev pub learn_paths : AskedLearn → List Text
-learn_paths a = a.table ∷ a.logs
 
 abbrev pub lint_paths : AskedLint → List Text
 lint_paths a = (table_paths a.table a.anacrontab ++ some_path a.declarations) ++ some_path a.zone

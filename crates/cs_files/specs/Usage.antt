@@ -1,4 +1,4 @@
--- What is answered where help or the version is asked for, or the words are no call.
+-- The answer where help or the version is asked for, or the words aren't a call.
 use Rattle.std.specs.Prelude.{◌≡◌, []}
 use Rattle.cs_args.specs.Version.{version_text}
 use Rattle.cs_io.specs.Files.{Failed}
@@ -8,10 +8,9 @@ use Rattle.cs_files.specs.Response.{Ending, done}
 abbrev pub ShowsHelp : Failed → Failed → Ending → Type 0
 ShowsHelp before failed ending = (failed ≡ before) × (ending.status ≡ 0) × (ending.err ≡ [])
 
--- the version is shown
 abbrev pub ShowsVersion : Failed → Failed → Ending → Type 0
 ShowsVersion before failed ending = (failed ≡ before) × (ending ≡ done version_text [])
 
--- that the words are no call of the program is said on standard error
+-- standard error says that the words aren't a call of the program
 abbrev pub IsRejected : Failed → Failed → Ending → Type 0
 IsRejected before failed ending = (failed ≡ before) × (ending.status ≡ 4) × (ending.out ≡ [])

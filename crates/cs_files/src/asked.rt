@@ -1,4 +1,4 @@
-//! What a call's files hold, read in the order of their turn, and warned of.
+//! What a call's files hold, read in their turn, and the warnings of them.
 ghost use Rattle.std.specs.Prelude.{◌≡◌, IfErr, OnOk, option_map};
 ghost use Rattle.cs_io.specs.Files.{AreReadInTurn, IsFresh};
 ghost use Rattle.cs_files.specs.Asked.{FindsPlan, FindsTables, Tells, Warns};
@@ -44,7 +44,7 @@ pub struct Planned {
     pub declarations: Bytes,
 }
 
-/// Reads both tables, and writes to standard error what is to be warned of them.
+/// Reads both tables, and writes their warnings to standard error.
 pub fn find_tables<'a, I: Inputs, E: Output>(
     alloc: Global,
     inputs: &mut I,
@@ -83,8 +83,8 @@ pub fn find_tables<'a, I: Inputs, E: Output>(
     })
 }
 
-/// Reads both tables and then the declarations at a path, and writes to standard error what is to be
-/// warned of the tables.
+/// Reads both tables and then the declarations at a path, and writes the tables' warnings to
+/// standard error.
 pub fn find_plan<'a, I: Inputs, E: Output>(
     alloc: Global,
     inputs: &mut I,

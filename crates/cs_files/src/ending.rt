@@ -17,8 +17,8 @@ pub fn tell<E: Output>(err: &mut E, text: &[u8])
     }
 }
 
-/// Writes an answer, what goes to standard error first, and gives the status: that of a failed device
-/// where standard output does not take its text. What standard error does not take is lost.
+/// Writes an answer, to standard error first, and returns its status: that of a failed device if
+/// standard output doesn't take its text. What standard error doesn't take is lost.
 pub fn finish<O: Output, E: Output>(response: &Response, out: &mut O, err: &mut E) -> Status
     ensures { Ends response.now
         (sink (O.contents out.old) (O.failed out.old))
@@ -34,7 +34,7 @@ pub fn finish<O: Output, E: Output>(response: &Response, out: &mut O, err: &mut 
     response.status()
 }
 
-/// Tells that memory ran out, and gives the status of that.
+/// Reports that memory ran out, and returns the status of that.
 pub fn run_out<E: Output>(err: &mut E) -> Status
     ensures told { Tries (codes "cronsafe: out of memory\n")
         (sink (E.contents err.old) (E.failed err.old))

@@ -1,4 +1,3 @@
-//! Why a call ends before all of it was done, and what is answered of it.
 ghost use Rattle.std.specs.Prelude.{◌≡◌, ◌++◌, IfOk, IfSome, None, OnOk, Some, codes, decimal};
 ghost use Rattle.std.specs.Prelude.{option_map};
 ghost use Rattle.cs_args.specs.Words.{word_fault};
@@ -27,7 +26,7 @@ use std::alloc::{AllocError, AllocFailed, Global};
 /// Why a call ends before all of it was done.
 #[derive(Drop)]
 pub enum Fault<'a> {
-    /// The words hold a fault.
+    /// The words of the call hold a fault.
     Words(WordFault),
     /// This path can't be read, for this reason.
     CannotRead(&'a str, Reason),
@@ -43,7 +42,7 @@ pub enum Fault<'a> {
     Script(ScriptError),
     /// The text of the certificate holds a fault.
     Certificate(CertError),
-    /// The file at this path, which is to be that of a time zone, is none.
+    /// The file at this path isn't one of a time zone.
     NoZone(&'a str),
     /// Memory ran out.
     OutOfMemory,
@@ -81,7 +80,6 @@ impl<'a> From<DeclError> for Fault<'a> {
     }
 }
 
-/// The name of a file with a line's number, and what is wrong with the line.
 fn line_text(alloc: Global, file: &[u8], line: u32, fault: &str) -> Result<Vec<u8>, AllocError>
     ensures { IfOk result
         (λ text. text.items ≡ file.now ++ (decimal line ++ (codes ": " ++ fault.now))) }
@@ -93,7 +91,6 @@ fn line_text(alloc: Global, file: &[u8], line: u32, fault: &str) -> Result<Vec<u
     Ok(text)
 }
 
-/// A name, and what stands after it.
 fn named_text(alloc: Global, name: &[u8], rest: &[u8]) -> Result<Vec<u8>, AllocError>
     ensures { IfOk result (λ text. text.items ≡ name.now ++ rest.now) }
 {
@@ -102,7 +99,6 @@ fn named_text(alloc: Global, name: &[u8], rest: &[u8]) -> Result<Vec<u8>, AllocE
     Ok(text)
 }
 
-/// What is said of a path that can't be read.
 fn unread_text(alloc: Global, path: &str, reason: Reason) -> Result<Vec<u8>, AllocError>
     ensures { IfOk result (λ text. text.items ≡
         codes "can't read " ++ (path.now ++ reason_text reason)) }
@@ -113,7 +109,6 @@ fn unread_text(alloc: Global, path: &str, reason: Reason) -> Result<Vec<u8>, All
     Ok(text)
 }
 
-/// Adds that the crontab reads as an anacrontab, if it does.
 fn push_jobs_hint(text: &mut Vec<u8>, are_jobs: bool) -> Result<(), AllocError>
     ensures { OnOk result (text.new.items ≡ text.old.items ++ jobs_hint are_jobs) }
 {
@@ -125,7 +120,6 @@ fn push_jobs_hint(text: &mut Vec<u8>, are_jobs: bool) -> Result<(), AllocError>
     )
 }
 
-/// Adds the lines that show a fault, if there are any.
 fn push_lines(text: &mut Vec<u8>, lines: &Option<Bytes>) -> Result<(), AllocError>
     ensures { OnOk result (text.new.items ≡ text.old.items ++ lines_in lines.now) }
 {
@@ -135,7 +129,6 @@ fn push_lines(text: &mut Vec<u8>, lines: &Option<Bytes>) -> Result<(), AllocErro
     }
 }
 
-/// What is said of a fault of a crontab.
 fn crontab_text(
     alloc: Global,
     fault: CrontabFault,
@@ -156,7 +149,6 @@ fn crontab_text(
     }
 }
 
-/// What is said of a fault of an anacrontab.
 fn anacrontab_text(
     alloc: Global,
     fault: AnacronFault,
@@ -174,7 +166,6 @@ fn anacrontab_text(
     }
 }
 
-/// What is said of a fault of a table that is gathered.
 fn gathered_text(
     alloc: Global,
     path: &str,
@@ -195,7 +186,6 @@ fn gathered_text(
     }
 }
 
-/// What is said of a fault of a script.
 fn script_text(alloc: Global, fault: ScriptError) -> Result<Vec<u8>, AllocError>
     ensures { IfOk result (λ text. Says (script_trouble fault) text.items) }
 {
@@ -207,7 +197,6 @@ fn script_text(alloc: Global, fault: ScriptError) -> Result<Vec<u8>, AllocError>
     }
 }
 
-/// What is said of a fault of a certificate's text.
 fn certificate_text(alloc: Global, fault: CertError) -> Result<Vec<u8>, AllocError>
     ensures { IfOk result (λ text. Says (certificate_trouble fault) text.items) }
 {
@@ -219,14 +208,12 @@ fn certificate_text(alloc: Global, fault: CertError) -> Result<Vec<u8>, AllocErr
     }
 }
 
-/// What is said of a file that is no time zone's.
 fn no_zone_text(alloc: Global, path: &str) -> Result<Vec<u8>, AllocError>
     ensures { IfOk result (λ text. text.items ≡ no_zone_line path.now) }
 {
     named_text(alloc, path.as_bytes(), b": no time zone file".as_slice())
 }
 
-/// What is said of a fault of declarations or of a plan.
 fn declared_text(
     alloc: Global,
     fault: &DeclError,
@@ -246,11 +233,9 @@ fn declared_text(
     }
 }
 
-/// What a date may be, and how that of today is given.
 const DATE_HINT: &[u8] =
     b"\ncronsafe: a date is YYYY-MM-DD, from 1970-01-04 to 9999-12-31, as $(date +%F) prints it";
 
-/// What is said of a fault of the words, and what they may be.
 fn word_text(alloc: Global, fault: WordFault) -> Result<Vec<u8>, AllocError>
     ensures { IfOk result (λ text. text.items ≡ word_fault fault ++ word_hint fault) }
 {
@@ -273,7 +258,7 @@ fn word_text(alloc: Global, fault: WordFault) -> Result<Vec<u8>, AllocError>
 }
 
 impl Fault<'_> {
-    /// What is said of it. The only error is out of memory, its own too.
+    /// An error too if the fault is that memory ran out.
     fn text(&self, alloc: Global) -> Result<Vec<u8>, AllocError>
         ensures { IfOk result (λ text. Says (trouble self.now) text.items) }
     {
@@ -293,7 +278,6 @@ impl Fault<'_> {
         }
     }
 
-    /// The status that a call ends with for it.
     fn status(&self) -> Status
         ensures { IfSome (trouble self.now) (λ t. status_of result ≡ trouble_status t) }
     {
@@ -311,7 +295,7 @@ impl Fault<'_> {
         }
     }
 
-    /// What is answered of it, after what is to be warned of.
+    /// Returns the answer to it, after these warnings. An error too if memory had run out.
     #[tactic(auto, using(crate::proofs::TroubleLemmas::is_ending))]
     pub fn response(&self, alloc: Global, warnings: &[u8]) -> Result<Response, AllocError>
         ensures { IfOk result (λ r. option_map (ends warnings.now) (trouble self.now) ≡ Some r) }

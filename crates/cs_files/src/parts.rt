@@ -29,14 +29,12 @@ fn all_are_among(names: &[Bytes], parts: &[PartEntry]) -> bool
     parts.iter().all(|part| is_among(names, part))
 }
 
-/// Whether the parts, no two of which have one name, have these names in any order.
 fn have_names(parts: &[PartEntry], names: &[Bytes]) -> bool
     ensures { result ≡ have_names parts.now names.now }
 {
     parts.len() == names.len() && all_are_among(names, parts)
 }
 
-/// Whether the place of the line has parts, and others than these.
 fn tells_others(places: &[Place], line: &Line, parts: &[PartEntry]) -> bool
     ensures { result ≡ tells_others parts.now (place_of places.now line.now.number) }
 {
@@ -49,7 +47,6 @@ fn tells_others(places: &[Place], line: &Line, parts: &[PartEntry]) -> bool
     }
 }
 
-/// Whether the place of the entry's line has parts, and others than those of the entry.
 fn are_told_otherwise(places: &[Place], lines: &[Line], entry: &CronEntry) -> bool
     ensures { result ≡ list_any (λ line. is_named entry.now.name line
         && tells_others entry.now.parts (place_of places.now line.number)) lines.now }
@@ -64,7 +61,6 @@ fn has_other_parts(places: &[Place], lines: &[Line], entry: &CronEntry) -> bool
     !entry.parts.is_empty() && are_told_otherwise(places, lines, entry)
 }
 
-/// The index of the first entry that has parts, and other ones than the place of its line has.
 fn first_with_other_parts(places: &[Place], lines: &[Line], entries: &[CronEntry]) -> Option<usize>
     ensures { result ≡ position (has_other_parts places.now lines.now) entries.now }
 {
@@ -74,8 +70,8 @@ fn first_with_other_parts(places: &[Place], lines: &[Line], entries: &[CronEntry
 }
 
 /// Joins tables and declarations to a plan, as [`join`] does. The last fault is
-/// [`OtherParts`](DeclFault::OtherParts), of the first entry that has other parts than the place of
-/// its line has.
+/// [`OtherParts`](DeclFault::OtherParts), of the first entry with other parts than the place of its
+/// line.
 pub(crate) fn join_placed(
     alloc: Global,
     table: Crontab,

@@ -1,4 +1,3 @@
-//! The files of a call, read one after the other.
 ghost use Rattle.std.specs.Prelude.{◌≡◌, ◌≤◌, IfErr, IfOk, IfSome, OnOk, length, option_map};
 ghost use Rattle.std.specs.List.{list_all, list_any};
 ghost use Rattle.std.specs.Char.{is_ascii_alphabetic};
@@ -83,15 +82,14 @@ fn all_are_named(jobs: &[Job]) -> bool
     jobs.iter().all(|job| has_letter(job.identifier()))
 }
 
-/// Whether there are jobs, and each identifier has a letter.
 fn are_named(jobs: &[Job]) -> bool
     ensures { result ≡ are_named jobs.now }
 {
     !jobs.is_empty() && all_are_named(jobs)
 }
 
-/// Whether the bytes are those of an anacrontab that has jobs, the identifier of each with a letter.
-/// The only error is out of memory.
+/// Whether the bytes are those of an anacrontab that has jobs, the identifier of each with a
+/// letter.
 pub fn are_jobs(alloc: Global, bytes: &[u8]) -> Result<bool, AllocError>
     ensures { IfOk result (HoldsJobs bytes.now) }
 {
@@ -103,7 +101,6 @@ pub fn are_jobs(alloc: Global, bytes: &[u8]) -> Result<bool, AllocError>
     }
 }
 
-/// The crontab that the bytes at a path denote.
 fn table_in<'a>(alloc: Global, path: &str, bytes: &[u8]) -> Result<Crontab, Fault<'a>>
     ensures value { MeansIt MeansTable InCrontab bytes.now result }
     ensures status { IfErr result IsOfContent }
@@ -122,7 +119,6 @@ fn table_in<'a>(alloc: Global, path: &str, bytes: &[u8]) -> Result<Crontab, Faul
     }
 }
 
-/// The crontab at a path, and its text.
 fn table_from<'a, I: Inputs>(
     alloc: Global,
     inputs: &mut I,
@@ -146,7 +142,6 @@ fn table_from<'a, I: Inputs>(
     Ok((table, text))
 }
 
-/// The anacrontab that the bytes at a path denote.
 fn jobs_in<'a>(alloc: Global, path: &str, bytes: &[u8]) -> Result<Anacrontab, Fault<'a>>
     ensures value { MeansIt MeansJobTable InAnacrontab bytes.now result }
     ensures status { IfErr result IsOfContent }
@@ -160,7 +155,6 @@ fn jobs_in<'a>(alloc: Global, path: &str, bytes: &[u8]) -> Result<Anacrontab, Fa
     }
 }
 
-/// The anacrontab at a path.
 fn jobs_from<'a, I: Inputs>(
     alloc: Global,
     inputs: &mut I,
@@ -180,7 +174,6 @@ fn jobs_from<'a, I: Inputs>(
     jobs_in(alloc, path, bytes.as_slice())
 }
 
-/// The anacrontab, if there is one.
 fn some_jobs_from<'a, I: Inputs>(
     alloc: Global,
     inputs: &mut I,
@@ -263,8 +256,8 @@ pub fn declared_plan_from<'a, I: Inputs>(
     }
 }
 
-/// The same where the crontab has these places: an entry may also have other parts than they tell.
-/// With the bytes of the declarations.
+/// Like [`declared_plan_from`], with the bytes of the declarations. A fault too if an entry has
+/// other parts than the place of its line.
 pub fn placed_plan_and_text<'a, I: Inputs>(
     alloc: Global,
     inputs: &mut I,

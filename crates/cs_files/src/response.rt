@@ -1,4 +1,3 @@
-//! What a call of the program writes, and the status that it ends with.
 ghost use Rattle.std.specs.Prelude.{◌≡◌, ◌++◌, [], IfOk, if◌then◌else◌};
 ghost use Rattle.cs_args.specs.Version.{version_text};
 ghost use Rattle.cs_files.specs.Response.{complaint, done, status_of};
@@ -19,7 +18,7 @@ pub enum Status {
     Unknown,
     /// The words or a file hold a fault.
     BadInput,
-    /// The words are no call.
+    /// The words aren't a call.
     NoCall,
     /// Memory ran out.
     NoMemory,
@@ -44,7 +43,7 @@ impl Status {
     }
 }
 
-/// A status, what is written to standard output, and what to standard error.
+/// What a call of the program writes, and the status that it ends with.
 #[derive(Drop)]
 pub struct Response {
     ends: Status,
@@ -82,7 +81,7 @@ impl Response {
         self.told.as_slice()
     }
 
-    /// What is asked was done, and this is to be warned of.
+    /// The call was done, with these warnings.
     pub fn done(text: Vec<u8>, warnings: Bytes) -> Response
         ensures { result ≡ done text.items warnings }
     {
@@ -93,7 +92,7 @@ impl Response {
         }
     }
 
-    /// The version is asked for. The only error is out of memory.
+    /// The version is asked for.
     pub fn version(alloc: Global) -> Result<Response, AllocError>
         ensures { IfOk result (λ r. r ≡ done version_text []) }
     {
@@ -101,7 +100,7 @@ impl Response {
         Ok(Response::done(text, Bytes::new(alloc)))
     }
 
-    /// The words are no call.
+    /// The words aren't a call, for this reason.
     pub fn no_call(alloc: Global, text: Vec<u8>) -> Response
         ensures { result ≡ record { status = 4; out = []; err = text.items } }
     {
@@ -112,7 +111,7 @@ impl Response {
         }
     }
 
-    /// A script was replayed: what is said of it, whether an event was refused, and what is to be warned of.
+    /// A script was replayed: the text, whether an event was refused, and the warnings.
     pub fn replayed(text: Vec<u8>, refused: bool, warnings: Bytes) -> Response
         ensures { result
             ≡ record { status = if refused then 1 else 0; out = text.items; err = warnings } }
@@ -140,7 +139,7 @@ impl Response {
         }
     }
 
-    /// A plan was judged: the status, what is said of it, and the notes on it.
+    /// A plan was judged: the status, the answer, and the notes on the plan.
     pub fn told(status: Status, text: Vec<u8>, notes: Bytes) -> Response
         ensures { result ≡ record { status = status_of status; out = text.items; err = notes } }
     {
@@ -151,7 +150,7 @@ impl Response {
         }
     }
 
-    /// A fault ended the call with this status, after what is to be warned of.
+    /// A fault ended the call with this status, after these warnings.
     pub fn fault(
         alloc: Global,
         status: Status,
@@ -169,7 +168,6 @@ impl Response {
     }
 }
 
-/// The line of a fault after what is to be warned of.
 #[tactic(auto, unfolding(crate::specs::Response::complaint))]
 fn complaint_behind(alloc: Global, warnings: &[u8], fault: &[u8]) -> Result<Bytes, AllocError>
     ensures { IfOk result (λ text. text ≡ warnings.now ++ complaint fault.now) }

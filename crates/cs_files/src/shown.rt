@@ -9,7 +9,7 @@ use cs_diagnostics::{File, FirstFault, TableKind, declared_lines, table_lines};
 use cs_plan::DeclError;
 use std::alloc::{AllocError, Global};
 
-/// The lines that show the first fault of a crontab, which is that text.
+/// The lines that show the first fault of a crontab. None if memory ran out.
 pub(crate) fn crontab_lines(
     alloc: Global,
     path: &str,
@@ -31,7 +31,7 @@ pub(crate) fn crontab_lines(
     Ok(Some(Bytes::from_vec(lines)))
 }
 
-/// The same of an anacrontab.
+/// The same for an anacrontab.
 pub(crate) fn anacrontab_lines(
     alloc: Global,
     path: &str,
@@ -53,7 +53,6 @@ pub(crate) fn anacrontab_lines(
     Ok(Some(Bytes::from_vec(lines)))
 }
 
-/// The lines that show a fault of declarations, which are that text.
 fn lines_of(
     alloc: Global,
     path: &str,
@@ -67,8 +66,8 @@ fn lines_of(
     }
 }
 
-/// A fault of declarations, which are that text, with the lines that show it: where an entry is for a
-/// job of an anacrontab, it's given whether there are such jobs.
+/// Returns a fault of declarations, with the lines that show it. `has_jobs`: whether the anacrontab
+/// has jobs, which the lines say where an entry is for one.
 pub fn declared_fault<'a>(
     alloc: Global,
     path: &str,

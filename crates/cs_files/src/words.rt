@@ -1,4 +1,3 @@
-//! The words of a call.
 use crate::ending::{run_out, tell};
 use crate::response::Status;
 use cs_io::Output;
@@ -6,7 +5,6 @@ use std::alloc::{AllocError, Global};
 use std::rt::Env;
 use std::{env, io};
 
-/// Says why the words of a call can't be had, and gives the status.
 fn without_words<E: Output>(error: &io::Error, err: &mut E) -> Status {
     if error.kind() == io::ErrorKind::OutOfMemory {
         return run_out(err);
@@ -27,8 +25,8 @@ fn named(alloc: Global, mut words: Vec<String>) -> Result<Vec<String>, AllocErro
 }
 
 /// Returns the words of the call, of which the first is `cronsafe`, whatever the program's file is
-/// called. Where they can't be had, says why on standard error, and gives the status: memory ran
-/// out, or a word is no UTF-8.
+/// called. If memory runs out, or a word isn't UTF-8, writes that to standard error, and returns
+/// the status.
 pub fn words_of<R: Env + AllocGlobal, E: Output>(
     rt: &R,
     err: &mut E,

@@ -1,4 +1,3 @@
--- What is answered to `gather`.
 use Rattle.std.proofs.Common.{◌≡◌, ◌⊎◌, ◌<◌, ◌≤◌, ◌∙◌, if◌then◌else◌, ℕ, Bool, true, false, IsSome, List, [], ◌∷◌, ◌++◌, Option, Some, None, IfSome, IfErr, IfOk, Ok, Err, Result, ap, arith, inl, inr, length, map, option_map, refl, string_bytes, subst, true≢false, sym, append_assoc}
 use Rattle.std.specs.List.{AllZip}
 use Rattle.std.specs.Result.{IsErrAnd}
@@ -40,7 +39,7 @@ is_short None bytes (User table) is = absurd is
 is_short (Some user) bytes (System table) is = absurd is
 is_short (Some user) bytes (User table) is = is.short
 
--- what holds of each text that the bytes may be holds of the file
+-- what holds of each text that the bytes may be the start of holds of the file
 by_file : (P : List ℕ → Type 0) (whole rest : Option (List ℕ)) (bytes : List ℕ) → ((text : List ℕ) → IsUpTo MAX_TABLE text bytes → P text)
     → IfSome whole (λ text. rest ≡ Some text) → IfSome rest (λ text. IsUpTo MAX_TABLE text bytes) → IfSome whole P
 by_file P None rest bytes so is up = tt
@@ -67,7 +66,7 @@ ignored_read files left given bytes old more (At line column size fault) fresh r
     so text (inl e) = inr (subst (IsIgnored given old more) e (found, short, (record { line = line; column = column; size = size; fault = fault }, has), same, gap))
     so text (inr (long, other)) = absurd (omega (arith, short, long))
 
--- a fault of bytes is that of a text that is too long too
+-- a fault of bytes that are too long is one of each text that is too long
 same_fault : {Y F : Type 0} (kind : Kind Y F) (bytes text : List ℕ) (fault : TableFault F) → MAX_TABLE < length bytes → MAX_TABLE < length text → tables.IsFaultOf kind bytes fault → tables.IsFaultOf kind text fault
 same_fault kind bytes text OutOfMemory long other is = tt
 same_fault kind bytes text (At line column size fault) long other (inl (past, is)) = inl (other, is)
@@ -92,7 +91,6 @@ stops_read files left failed given bytes old (At line column size fault) fresh r
     same (inl (is, far)) text (inr (long, other)) = inl (long_fault given.user bytes text at long other is, λ found. other)
     same (inr (table, is, over)) text (inr (long, other)) = absurd (let short = is_short given.user bytes table is in omega (arith, short, long))
 
--- and so does one that can't be read
 pub stops_unread : (files : List ℕ → Option (List ℕ)) (failed : Failed) (given : Given) (old : Sum) (e : Fault) → IsUnreadAt given.path failed e → IfSome (trouble e) (Stops files failed given old)
 stops_unread files failed given old e = by_trouble (trouble e)
   where
@@ -110,7 +108,6 @@ pub of_shown : (P : Trouble → Type 0) (o : Option Trouble) (path text : Text) 
     → IfSome (gathered_trouble text fault lines) P → IfSome o P
 of_shown P o path text fault lines is at h = subst (λ (x : Option Trouble). IfSome x P) (sym (is ∙ ap (λ (p : Text). gathered_trouble p fault lines) at)) h
 
--- what is answered of a fault is told
 pub is_told : (notes : List ℕ) (o : Option Trouble) (r : Ending) → option_map (ends notes) o ≡ Some r → IsSome o
 is_told notes None r is = absurd (cc)
 is_told notes (Some t) r is = refl
@@ -121,13 +118,13 @@ pub some_so : {X : Type 0} (P Q : X → Type 0) (o : Option X) → ((x : X) → 
 some_so P Q None so h = h
 some_so P Q (Some x) so h = so x h
 
--- ---- what is answered
+-- ---- the answer
 
 pub ends_for : (P : Trouble → Type 0) (notes : List ℕ) (o : Option Trouble) (r : Ending) → IfSome o P → option_map (ends notes) o ≡ Some r → (t : Trouble) × P t × EndsFor t r
 ends_for P notes None r h is = absurd (cc)
 ends_for P notes (Some t) r h is = (t, h, (notes, sym (some_is (ends notes t) r is)))
 
--- a gathered table, or one that isn't, is no failure of a device
+-- neither answer is a failure of a device
 not_six : (b : Bool) (status : ℕ) → status ≡ (if b then 0 else 1) → status ≡ 6 → ⊥
 not_six true status is six = absurd (cc)
 not_six false status is six = absurd (cc)
@@ -140,12 +137,10 @@ pub err_so : {T E : Type 0} (P Q : E → Type 0) (r : Result T E) → ((e : E) �
 err_so P Q (Ok x) so h = absurd h
 err_so P Q (Err e) so h = so e h
 
--- it holds of what was answered
 pub if_ok : {T E : Type 0} (P Q : T → Type 0) (r : Result T E) → ((x : T) → P x → Q x) → IfOk r P → IfOk r Q
 if_ok P Q (Ok x) so h = so x h
 if_ok P Q (Err e) so h = h
 
--- that a path can't be read
 pub told_unread : {E : Type 0} (path text notes : List ℕ) (reason : Reason) (r : Result Ending E) → path ≡ text → IfOk r (λ x. Some (ends notes (Unread path reason)) ≡ Some x) → IfOk r (λ x. Some (ends notes (Unread text reason)) ≡ Some x)
 told_unread path text notes reason r same is = subst (λ (p : List ℕ). IfOk r (λ x. Some (ends notes (Unread p reason)) ≡ Some x)) same is
 
@@ -177,7 +172,6 @@ named_paths a named (users, are, is) =
     let path_of = λ (given : Given). given.path in
     ap (map path_of) is ∙ map-append path_of (map system_table a.system) users ∙ ap (λ (ps : List Text). ps ++ map path_of users) (system_paths a.system) ∙ ap (λ (ps : List Text). a.system ++ ps) (user_paths a.user users are)
 
--- the tables that were found and those that the words name
 pub all_paths : (a : AskedGather) (found named tables : List Given) → tables ≡ found ++ named → AreNamed a named → map (λ given. given.path) tables ≡ map (λ given. given.path) found ++ gather_paths a
 all_paths a found named tables is are =
     let path_of = λ (given : Given). given.path in

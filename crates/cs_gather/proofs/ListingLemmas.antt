@@ -1,4 +1,3 @@
--- What is found below a root folder.
 use Rattle.std.proofs.Common.{◌≡◌, ◌⊎◌, ◌∙◌, ◌++◌, ◌∷◌, All, Contains, List, [], Option, Some, None, IfSome, ap, codes, inl, inr, subst, sym}
 use Rattle.std.proofs.lemmas.List.Elements.{All-push, Contains-append_left, Contains-push}
 use Rattle.clap.specs.Words.{Text}
@@ -10,25 +9,20 @@ use Rattle.cs_gather.specs.Listing.{FindsAllOn, HasName, given_in, place_of}
 use Rattle.cs_gather.specs.declared.below.Shelf.{Shelf}
 use Rattle.cs_gather.specs.declared.below.Shelf.TheVariants.{CronD, Crontabs}
 
--- one more of which it holds, or none
 pub maybe_more : {X : Type 0} (P : X → Type 0) (old new : List X) (x : X) → P x → (new ≡ old) ⊎ (new ≡ old ++ x ∷ []) → All P old → All P new
 maybe_more P old new x is (inl same) all = subst (All P) (sym same) all
 maybe_more P old new x is (inr more) all = subst (All P) (sym more) (All-push P old x all is)
 
--- and so all that there were
 pub kept : {X : Type 0} (old new : List X) (x : X) → (new ≡ old) ⊎ (new ≡ old ++ x ∷ []) → (y : X) → Contains old y → Contains new y
 kept old new x (inl same) y is = subst (λ xs. Contains xs y) (sym same) is
 kept old new x (inr more) y is = subst (λ xs. Contains xs y) (sym more) (Contains-append_left old (x ∷ []) y is)
 
--- the one that is new
 pub last_of : {X : Type 0} (old new : List X) (x : X) → new ≡ old ++ x ∷ [] → Contains new x
 last_of old new x more = subst (λ xs. Contains xs x) (sym more) (Contains-push old x)
 
--- a file is at a path of which that is known
 pub is_file : (tree : Tree) (path : Text) (kind : Option FileKind) → IsFileAt tree path → IfSome (tree.kind path) (λ known. kind ≡ known) → IsFile kind
 is_file tree path kind (known, is, file) same = subst IsFile (sym (subst (λ (o : Option (Option FileKind)). IfSome o (λ k. kind ≡ k)) is same)) file
 
--- a table in a folder of tables
 pub is_below : (shelf : Shelf) (front folder name path : Text) (given : Given) → HasName shelf name → folder ≡ front ++ place_of shelf → path ≡ folder ++ name → given ≡ given_in shelf path name → IsBelow front given
 is_below CronD front folder name path given signs at whole is =
     inr (inl (name, signs, tt, is ∙ ap (λ (p : Text). found_table p (place_of CronD ++ name) None) (whole ∙ ap (λ (f : Text). f ++ name) at)))
@@ -49,7 +43,7 @@ pub no_file : (kind : Option FileKind) → kind ≡ None → IsFile kind → ⊥
 no_file kind none (inl is) = cc
 no_file kind none (inr is) = cc
 
--- what is found on each shelf, and the table of the machine, is all that cron(8) reads
+-- what is found in each folder, and the table of the machine, is all that cron(8) reads
 pub all_found : (tree : Tree) (front : Text) (found : List Given)
     → (IsFileAt tree (front ++ codes "/etc/crontab") → Contains found (found_table (front ++ codes "/etc/crontab") (codes "/etc/crontab") None))
     → FindsAllOn tree front CronD found → FindsAllOn tree front Crontabs found

@@ -11,7 +11,7 @@ use Rattle.cs_gather.specs.declared.line.Gathered.{Gathered}
 use Rattle.cs_gather.specs.Gather.{IsLineAt, IsOverflow}
 use Rattle.cs_gather.proofs.Between.{parts_at}
 
--- so many lines of the text are behind, and the rest is left
+-- so many lines of the text are passed, and the rest is left
 pub record IsWalked (text rest : List ℕ) (number : ℕ) : Type 0 where
   pub before : List (List ℕ)
   pub parts : lines_of text ≡ before ++ lines_of rest

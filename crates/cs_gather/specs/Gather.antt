@@ -1,4 +1,4 @@
--- Tables of a machine as one user's table: what each adds, and what the text says in the end.
+-- Tables of a machine as one user's table: what each adds, and what the text says.
 use Rattle.std.specs.Prelude.{◌≡◌, ℕ, ◌+◌, ◌-◌, ◌⊎◌, true, List, [], ◌∷◌, ◌++◌, Option, Some, None, length, option_map}
 use Rattle.std.specs.List.{list_all, AllZip}
 use Rattle.clap.specs.Words.{Text}
@@ -24,12 +24,12 @@ use Rattle.cs_gather.specs.declared.table.Table.TheVariants.{System, User}
 
 -- ---- what the text says
 
--- what the comment of a place says: `NAME:LINE`, and a user
+-- `NAME:LINE` and the user in the comment of a place
 abbrev pub told_by : Place → List ℕ × List ℕ
 told_by place = (place.origin, place.user)
 
--- a line has the same times and command, and its place is that of the table and the line that the
--- command comes from, with its user
+-- a line has the same times and command, and its comment names the table, the line and the user
+-- that the command comes from
 pub record IsGathered (places : List Place) (line : CommandLine) (gathered : Gathered)
     : Type 0 where
   pub when : same_when line.when gathered.when ≡ true
@@ -37,7 +37,7 @@ pub record IsGathered (places : List Place) (line : CommandLine) (gathered : Gat
   pub place : option_map told_by (place_of places line.number)
       ≡ Some (gathered.origin, gathered.user)
 
--- The text is written as a crontab with this one setting, whose commands are these, in this order.
+-- The text is a crontab with the mark as its only setting; its commands are these, in this order.
 pub record Gathers (text : List ℕ) (commands : List Gathered) : Type 0 where
   pub table : Crontab
   pub written : IsCrontab text table
@@ -46,18 +46,17 @@ pub record Gathers (text : List ℕ) (commands : List Gathered) : Type 0 where
 
 -- ---- what a table says
 
--- the text is written as this table, which is a user's or has lines that name users
+-- the text is a user's table, or without a user a table whose lines name users
 abbrev pub Denotes : Option Text → List ℕ → Table → Type 0
 Denotes None text (System table) = IsSystemCrontab text table
 Denotes (Some user) text (User table) = IsCrontab text table
 Denotes user text other = ⊥
 
--- a fault of a user's table, as one of a system table
 abbrev pub as_system : TableFault LineFault → TableFault SystemFault
 as_system OutOfMemory = OutOfMemory
 as_system (At line column size fault) = At line column size (Line fault)
 
--- or it has this first fault
+-- the first fault of such a text
 abbrev pub HasFault : Option Text → List ℕ → TableFault SystemFault → Type 0
 HasFault None text fault = IsFaultOf text fault
 HasFault (Some user) text fault =
@@ -65,7 +64,7 @@ HasFault (Some user) text fault =
 
 -- ---- what is too much
 
--- The place is a line of the text without its leading blanks.
+-- the place is all of a line, without its leading blanks
 pub record IsLineAt (text : List ℕ) (line column size : ℕ) : Type 0 where
   pub before : List (List ℕ)
   pub found : List ℕ
@@ -80,7 +79,7 @@ pub record IsLineAt (text : List ℕ) (line column size : ℕ) : Type 0 where
   pub column_is : column ≡ length indent + 1
   pub size_is : size ≡ length content
 
--- The first command for which there is no room stands on that line.
+-- the first command for which there is no room is on that line
 abbrev pub IsOneTooMany : ℕ → List Gathered → ℕ → Type 0
 IsOneTooMany room commands line =
     (before : List Gathered) × (command : Gathered) × (later : List Gathered)
@@ -92,6 +91,5 @@ IsOverflow text room commands OutOfMemory = Unit {0}
 IsOverflow text room commands (At line column size fault) = IsLineAt text line column size
     × ((fault ≡ Line TooLong) ⊎ ((fault ≡ Line TooManyJobs) × IsOneTooMany room commands line))
 
--- how many commands may follow the old ones
 abbrev pub room_behind : List Gathered → ℕ
 room_behind old = MAX_COMMANDS - length old

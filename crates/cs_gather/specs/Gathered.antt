@@ -8,7 +8,7 @@ use Rattle.cs_gather.specs.declared.line.Gathered.{Gathered}
 use Rattle.cs_gather.specs.declared.table.Table.{Table}
 use Rattle.cs_gather.specs.declared.table.Table.TheVariants.{System, User}
 
--- in the name of a user, which is one word of its comment, a blank is `\x20` too
+-- the user is one word of the comment: a blank is `\x20` too
 abbrev pub shown_in_user : ℕ → List ℕ
 shown_in_user b = if b == 32 then 92 ∷ 120 ∷ 50 ∷ 48 ∷ [] else shown b
 
@@ -16,7 +16,6 @@ shown_in_user b = if b == 32 then 92 ∷ 120 ∷ 50 ∷ 48 ∷ [] else shown b
 abbrev pub place_text : List ℕ → ℕ → List ℕ
 place_text name number = flat_map shown name ++ 58 ∷ decimal number
 
--- a command of the system table of that name
 abbrev pub of_system : List ℕ → SystemCommand → Gathered
 of_system name line = record {
   number = line.number;
@@ -26,7 +25,6 @@ of_system name line = record {
   command = line.command;
 }
 
--- a command of that user's table
 abbrev pub of_user : List ℕ → List ℕ → CommandLine → Gathered
 of_user name user line = record {
   number = line.number;
@@ -36,7 +34,6 @@ of_user name user line = record {
   command = line.command;
 }
 
--- the commands of a table
 abbrev pub commands_of : Given → Table → List Gathered
 commands_of given (System table) = map (of_system (name_of given)) table.lines
 commands_of given (User table) =

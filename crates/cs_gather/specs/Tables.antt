@@ -1,4 +1,4 @@
--- Which tables `gather` is to read.
+-- The tables that `gather` has to read.
 use Rattle.std.specs.Prelude.{◌≡◌, ◌⊎◌, ◌==◌, All, Contains, true, false, List, [], ◌∷◌, ◌++◌, Option, Some, None, codes, map, nat_eq, unwrap_or, ⊤}
 use Rattle.std.specs.List.{AllZip, list_any, starts_with}
 use Rattle.std.specs.Str.{IsUtf8}
@@ -9,14 +9,14 @@ use Rattle.cs_io.specs.declared.folders.FileKind.TheVariants.{Program, Regular}
 use Rattle.cs_place.specs.Places.{is_part_name}
 use Rattle.cs_args.specs.Asked.{AskedGather}
 
--- a table to gather: its path, its path below the root folder, if it was found there, and whose it
--- is, unless its lines name users
+-- a table: its path, its path below the root folder, if found there, and its user, unless its lines
+-- name users
 pub record Given : Type 0 where
   pub path : Text
   pub below : Option Text
   pub user : Option Text
 
--- its name in places: its path, but below the root folder without the path of that
+-- the name in comments: the path, without that of the root folder
 abbrev pub name_of : Given → Text
 name_of given = unwrap_or given.below given.path
 
@@ -28,12 +28,12 @@ system_table path = record { path = path; below = None; user = None }
 abbrev pub user_table : Text → Text → Given
 user_table path user = record { path = path; below = None; user = Some user }
 
--- what stands after the last slash of a path, or all of it
+-- what follows the last slash of a path, or all of it
 abbrev pub IsLastPart : Text → Text → Type 0
 IsLastPart path part = (list_any (λ byte. byte == 47) part ≡ false)
     × ((path ≡ part) ⊎ ((before : Text) × (path ≡ before ++ (47 ∷ part))))
 
--- a user's table, where the last part of its path is the user
+-- the last part of the path is the user
 abbrev pub IsUserFile : Text → Given → Type 0
 IsUserFile path given = (user : Text) × IsLastPart path user × (given ≡ user_table path user)
 
@@ -47,18 +47,18 @@ AreNamed a named = (users : List Given) × AllZip IsUserFile a.user users
 abbrev pub found_table : Text → Text → Option Text → Given
 found_table path below user = record { path = path; below = Some below; user = user }
 
--- paths below a folder begin so: with its own path, of which a slash at the end isn't doubled. A
--- folder by the name of standard input is called `./-`.
+-- Paths below the root begin with its path, without a slash at its end. A root named `-` is `./-`,
+-- not standard input.
 abbrev pub IsFront : Text → Text → Type 0
 IsFront root front = (root ≡ front ++ (47 ∷ [])) ⊎ ((root ≡ front)
     ⊎ ((root ≡ codes "-") × (front ≡ codes "./-")))
 
--- the name of a user's table: a text without a dot at its front
+-- UTF-8 that doesn't begin with a dot
 abbrev pub IsUserName : Text → Type 0
 IsUserName name = IsUtf8 name × (starts_with nat_eq name (46 ∷ []) ≡ false)
 
--- the table of the machine, one in the folder of system tables, or one in that of users' tables,
--- where this is so of the folder and the name
+-- /etc/crontab, a table in /etc/cron.d, or one in /var/spool/cron/crontabs; IsSo holds of the
+-- folder and the name
 abbrev pub IsTableBelow : Text → (Text → Text → Type 0) → Given → Type 0
 IsTableBelow front IsSo given =
     (given ≡ found_table (front ++ codes "/etc/crontab") (codes "/etc/crontab") None)
@@ -72,23 +72,22 @@ IsTableBelow front IsSo given =
 abbrev pub IsBelow : Text → Given → Type 0
 IsBelow front = IsTableBelow front (λ folder name. ⊤)
 
--- a regular file, whoever may execute it; one without bytes has no table
+-- a regular file; an empty one has no table
 abbrev pub IsFile : Option FileKind → Type 0
 IsFile kind = (kind ≡ Some Regular) ⊎ (kind ≡ Some Program)
 
 abbrev pub IsFileAt : Tree → Text → Type 0
 IsFileAt tree path = (kind : Option FileKind) × (tree.kind path ≡ Some kind) × IsFile kind
 
--- this name is in a folder
 abbrev pub IsIn : Tree → Text → Text → Type 0
 IsIn tree folder name =
     (names : List Text) × (tree.names folder ≡ Some (Some names)) × Contains names name
 
--- cron(8) reads this table, as far as its folders and files are known
+-- cron(8) reads this table, as far as folders and files are known
 abbrev pub IsReadByCron : Tree → Text → Given → Type 0
 IsReadByCron tree front given = IsFileAt tree given.path × IsTableBelow front (IsIn tree) given
 
--- tables below the root folder, with all that cron(8) reads there; none where no root is asked
+-- tables below the root, with all that cron(8) reads there; none without a root
 abbrev pub AreFound : Tree → Option Text → List Given → Type 0
 AreFound tree None found = found ≡ []
 AreFound tree (Some root) found = (front : Text) × IsFront root front

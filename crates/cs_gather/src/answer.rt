@@ -28,8 +28,8 @@ use cs_system::SystemFault;
 use cs_table::{MAX_TABLE, TableFault};
 use std::alloc::{AllocError, Global};
 
-/// A fault of the table at a path, which is that text, with the lines that show it. Up to its user
-/// a line of a system table is one of a user's table.
+/// A fault with the lines that show it. Up to its user a line of a system table is like one of a
+/// user's table.
 fn shown<'a>(
     alloc: Global,
     path: &'a str,
@@ -55,8 +55,8 @@ fn shown<'a>(
     Ok(Fault::Gathered(path, fault, Some(Bytes::from_vec(lines))))
 }
 
-/// Ignores a table with this fault, which is shown, if it was found below the root folder and isn't
-/// longer than a table may be. Says whether it did.
+/// Ignores a table with this fault and notes it, if the table was found below the root folder and
+/// isn't too long. Returns whether it did.
 fn ignores(
     alloc: Global,
     given: &Given,
@@ -87,8 +87,7 @@ fn ignores(
     Ok(true)
 }
 
-/// Reads a table and adds its commands, with their parts where a root folder is asked, or ignores
-/// it; what there is to say of it is added to the notes.
+/// Reads a table and adds its commands, with their parts if a root folder is given, or ignores it.
 fn add_table<'a, I: Folders>(
     alloc: Global,
     inputs: &mut I,
@@ -134,7 +133,7 @@ fn add_table<'a, I: Folders>(
     }
 }
 
-/// Reads tables and adds their commands, one table after the other.
+/// Adds the commands of tables in turn.
 fn add_tables<'a, I: Folders>(
     alloc: Global,
     inputs: &mut I,
@@ -161,7 +160,6 @@ fn add_tables<'a, I: Folders>(
     Ok(())
 }
 
-/// The text of what was gathered.
 fn show(alloc: Global, gathering: Gathering, notes: Vec<u8>) -> Result<Response, AllocError>
     ensures { IfOk result (ShowsGathered (sum_of gathering)) }
 {
@@ -176,7 +174,7 @@ fn show(alloc: Global, gathering: Gathering, notes: Vec<u8>) -> Result<Response,
     Response::fault(alloc, Status::Unknown, notes.as_slice(), fault)
 }
 
-/// What is answered of the tables that were found and of those that the words name, after notes.
+/// Gathers the tables that were found and those of the words, after the notes.
 fn gather<I: Folders>(
     alloc: Global,
     request: &GatherWords<'_>,
@@ -207,7 +205,8 @@ fn gather<I: Folders>(
     }
 }
 
-/// The answer to `gather [--root DIR] [--system FILE].. [--user FILE]..`.
+/// Answers `gather [--root DIR] [--system FILE].. [--user FILE]..`. The only error is out of
+/// memory.
 pub fn answer_gather<I: Folders>(
     alloc: Global,
     request: &GatherWords<'_>,

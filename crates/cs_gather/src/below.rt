@@ -14,12 +14,11 @@ use cs_place::is_part_name;
 use std::alloc::{AllocError, AllocFailed, Global};
 use std::str;
 
-/// Why the tables below a root folder aren't known.
+/// Why the tables below a root folder are unknown.
 #[derive(Drop)]
 pub(crate) enum Unlisted {
     /// This path can't be read.
     CannotRead(String, Reason),
-    /// Memory ran out.
     OutOfMemory,
 }
 
@@ -44,7 +43,7 @@ impl<T: Drop> From<AllocFailed<T>> for Unlisted {
 }
 
 impl Unlisted {
-    /// What is answered of it, after notes.
+    /// The answer, after notes.
     pub(crate) fn response(&self, alloc: Global, notes: &[u8]) -> Result<Response, AllocError>
         ensures { IfOk result
             (λ r. option_map (ends notes.now) (unlisted_trouble self.now) ≡ Some r) }
@@ -78,8 +77,8 @@ impl Shelf {
         }
     }
 
-    /// The name of a table in it, or why nothing of this name is gathered. The names of parts are
-    /// as those of system tables.
+    /// The name of a table in it, or why a file of this name is ignored. Parts have names like
+    /// those of system tables.
     pub(crate) fn name(self, name: &[u8]) -> Result<&str, &'static str>
         ensures name { IfOk result (λ text. text.now ≡ name.now) }
         ensures signs { OnOk result (HasName self name.now) }
@@ -100,7 +99,6 @@ impl Shelf {
         }
     }
 
-    /// A table in it.
     fn given(self, alloc: Global, path: String, name: &str) -> Result<Given, AllocError>
         ensures { IfOk result (λ given. given ≡ given_in self (string_bytes path) name.now) }
     {
@@ -112,7 +110,6 @@ impl Shelf {
     }
 }
 
-/// A path in two parts.
 pub(crate) fn joined(alloc: Global, front: &str, rest: &str) -> Result<String, AllocError>
     ensures { IfOk result (λ path. string_bytes path ≡ front.now ++ rest.now) }
 {
@@ -121,7 +118,7 @@ pub(crate) fn joined(alloc: Global, front: &str, rest: &str) -> Result<String, A
     Ok(path)
 }
 
-/// The path that a front and a name make, and what it leads to.
+/// The path of a front and a name, and what it leads to; none if nothing is there.
 pub(crate) fn found_at<I: Folders>(
     alloc: Global,
     inputs: &mut I,
@@ -142,7 +139,7 @@ pub(crate) fn found_at<I: Folders>(
     }
 }
 
-/// The names in a folder, if there is one.
+/// The names in a folder; none if there is no folder.
 pub(crate) fn names_at<I: Folders>(
     alloc: Global,
     inputs: &mut I,
@@ -162,7 +159,7 @@ pub(crate) fn names_at<I: Folders>(
     }
 }
 
-/// Adds a table, if a regular file is there; else it is ignored.
+/// Adds the table, if a regular file is there; else notes that it is ignored.
 fn push_found(
     kind: Option<FileKind>,
     given: Given,
@@ -184,7 +181,7 @@ fn push_found(
     push_ignored(notes, given.path(), b"", why)
 }
 
-/// Adds the table of the machine, if there is one.
+/// Adds the table `/etc/crontab`, if it is there.
 pub(crate) fn push_crontab<I: Folders>(
     alloc: Global,
     inputs: &mut I,
@@ -210,7 +207,7 @@ pub(crate) fn push_crontab<I: Folders>(
     }
 }
 
-/// Adds the table of a name in a folder of tables, or ignores it.
+/// Adds the table, or notes that it is ignored.
 fn push_named<I: Folders>(
     alloc: Global,
     inputs: &mut I,
@@ -237,7 +234,7 @@ fn push_named<I: Folders>(
     Ok(push_found(kind, given, found, notes)?)
 }
 
-/// Adds the tables in a folder of tables, in the order of their names.
+/// Adds the tables in a folder, in the order of their names.
 pub(crate) fn push_shelf<I: Folders>(
     alloc: Global,
     inputs: &mut I,

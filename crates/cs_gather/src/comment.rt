@@ -6,7 +6,7 @@ use cs_civil::push_number;
 use cs_place::{push_byte, push_shown};
 use std::alloc::{AllocError, Global};
 
-/// Adds the name of a user as one word: as [`push_shown`] does, and a blank as `\x20`.
+/// Adds the name of a user as one word: as [`push_byte`] does, and a blank as `\x20`.
 pub(crate) fn push_user(text: &mut Vec<u8>, name: &[u8]) -> Result<(), AllocError>
     ensures { OnOk result (text.new.items ≡ text.old.items ++ flat_map shown_in_user name.now) }
 {

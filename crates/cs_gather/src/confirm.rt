@@ -1,4 +1,4 @@
-//! Whether a text says what was gathered: it is read back.
+//! Whether a text that is read back says what was gathered.
 ghost use Rattle.std.specs.Prelude.{IfOk, IsTrue};
 ghost use Rattle.std.specs.List.{AllZip};
 ghost use Rattle.cs_gather.specs.Gather.{Gathers, IsGathered};
@@ -9,7 +9,6 @@ use cs_decl::is_same_when;
 use cs_place::{Place, are_mark, place_of, read_places};
 use std::alloc::{AllocError, Global};
 
-/// Whether the line says the command, and has its place.
 fn is_gathered(places: &[Place], line: &Line, gathered: &Gathered) -> bool
     ensures { IsTrue result → IsGathered places.now line.now gathered.now }
 {
@@ -24,7 +23,6 @@ fn is_gathered(places: &[Place], line: &Line, gathered: &Gathered) -> bool
     }
 }
 
-/// And so of all lines.
 fn are_gathered(places: &[Place], found: &[Line], gathered: &[Gathered]) -> bool
     ensures { IsTrue result → AllZip (IsGathered places.now) found.now gathered.now }
 {
@@ -43,7 +41,6 @@ fn are_gathered(places: &[Place], found: &[Line], gathered: &[Gathered]) -> bool
     gathered.is_empty()
 }
 
-/// Whether the text, read back, says what was gathered.
 pub(crate) fn says(alloc: Global, text: &[u8], gathered: &[Gathered]) -> Result<bool, AllocError>
     ensures { IfOk result (λ b. IsTrue b → Gathers text.now gathered.now) }
 {

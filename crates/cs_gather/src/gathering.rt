@@ -10,19 +10,18 @@ use cs_system::SystemFault;
 use cs_table::TableFault;
 use std::alloc::Global;
 
-/// Why a table could not be added: its own first fault; or, from its first line on, its first
-/// command above [`MAX_COMMANDS`](cs_crontab::MAX_COMMANDS) over all tables, or the first line with
-/// which the text exceeds [`MAX_TABLE`](cs_table::MAX_TABLE) or a comment
-/// [`MAX_LINE`](cs_table::MAX_LINE).
+/// Why a table can't be added: its first fault; or, at a line, the first command above
+/// [`MAX_COMMANDS`](cs_crontab::MAX_COMMANDS) in all tables, a text above
+/// [`MAX_TABLE`](cs_table::MAX_TABLE) or a comment above [`MAX_LINE`](cs_table::MAX_LINE).
 pub(crate) type GatherFault = TableFault<SystemFault>;
 
-/// Tables of a machine, gathered as one user's table: its text and its commands so far.
+/// Tables of a machine as one user's table, so far.
 ///
-/// Its first line is the setting `CRONSAFE_TABLE=gathered`. Each command stands below a comment
-/// with its place, `#@ NAME:LINE USER`, and then a comment `#@ part NAME` for each of its parts. A
-/// setting becomes the comment `# NAME:LINE SETTING`, or `# NAME:LINE` if that would exceed
-/// [`MAX_LINE`](cs_table::MAX_LINE). Other lines are left out. In comments a byte below 32, 127 and
-/// `\` are written `\xNN` (this profile).
+/// Its first line is the setting `CRONSAFE_TABLE=gathered`. A comment above each command gives its
+/// place, `#@ NAME:LINE USER`, and then `#@ part NAME` each of its parts. A setting becomes the
+/// comment `# NAME:LINE SETTING`, or `# NAME:LINE` if that would exceed
+/// [`MAX_LINE`](cs_table::MAX_LINE). Other lines are dropped. In comments a byte below 32, 127 and
+/// `\` are `\xNN` (this profile).
 #[derive(Drop)]
 pub(crate) struct Gathering {
     pub(crate) text: Vec<u8>,
@@ -32,7 +31,7 @@ pub(crate) struct Gathering {
 }
 
 impl Gathering {
-    /// Adds the commands of a table, which comments call by that name, each with its parts.
+    /// Adds the commands of a table, each with its parts; `name` is that of the table in comments.
     pub(crate) fn add(
         &mut self,
         alloc: Global,

@@ -32,7 +32,6 @@ impl Model for Given {
 }
 
 impl Given {
-    /// A table whose lines name users.
     pub(crate) fn system(path: String) -> Given
         ensures { result ≡ system_table (string_bytes path) }
     {
@@ -43,7 +42,6 @@ impl Given {
         }
     }
 
-    /// The table of a user.
     pub(crate) fn user(path: String, user: String) -> Given
         ensures { result ≡ user_table (string_bytes path) (string_bytes user) }
     {
@@ -54,7 +52,8 @@ impl Given {
         }
     }
 
-    /// A table below the root folder, by its path there, of this user if its lines name none.
+    /// A table below the root folder, with its path there; of this user, unless its lines name
+    /// users.
     pub(crate) fn found(path: String, below: String, user: Option<String>) -> Given
         ensures { result ≡ found_table (string_bytes path) (string_bytes below)
             (option_map string_bytes user) }
@@ -66,14 +65,13 @@ impl Given {
         }
     }
 
-    /// Its path.
     pub(crate) fn path(&self) -> &str
         ensures { result.now ≡ self.now.path }
     {
         self.place.as_str()
     }
 
-    /// Its name in places.
+    /// Its name in comments.
     pub(crate) fn name(&self) -> &str
         ensures { result.now ≡ name_of self.now }
     {
@@ -83,14 +81,13 @@ impl Given {
         }
     }
 
-    /// Whether it was found below the root folder.
     pub(crate) fn is_found(&self) -> bool
         ensures { result ≡ is_some self.now.below }
     {
         self.inner.is_some()
     }
 
-    /// Whose it is, unless its lines name users.
+    /// Its user, unless its lines name users.
     pub(crate) fn owner(&self) -> Option<&str>
         ensures { option_map (λ user. user.now) result ≡ self.now.user }
     {
@@ -101,7 +98,7 @@ impl Given {
     }
 }
 
-/// What stands after the last slash of a path, or all of it.
+/// What follows the last slash of a path, or all of it.
 fn last_part(path: &str) -> &str
     ensures { IsLastPart path.now result.now }
 {
@@ -112,7 +109,6 @@ fn last_part(path: &str) -> &str
     part
 }
 
-/// Adds system tables.
 fn push_system(alloc: Global, paths: &[&str], tables: &mut Vec<Given>) -> Result<(), AllocError>
     ensures { OnOk result (tables.new.items
         ≡ tables.old.items ++ map system_table (map (λ path. path.now) paths.now)) }
@@ -123,7 +119,7 @@ fn push_system(alloc: Global, paths: &[&str], tables: &mut Vec<Given>) -> Result
     Ok(())
 }
 
-/// Adds users' tables.
+/// The last part of each path is the user.
 fn push_users(alloc: Global, paths: &[&str], tables: &mut Vec<Given>) -> Result<(), AllocError>
     ensures { OnOk result ((users : _) × (tables.new.items ≡ tables.old.items ++ users)
         × AllZip IsUserFile (map (λ path. path.now) paths.now) users) }
@@ -135,7 +131,7 @@ fn push_users(alloc: Global, paths: &[&str], tables: &mut Vec<Given>) -> Result<
     Ok(())
 }
 
-/// Adds the tables that the words name.
+/// Adds the tables of the words.
 pub(crate) fn push_named(
     alloc: Global,
     request: &GatherWords<'_>,

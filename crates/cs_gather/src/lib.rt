@@ -1,4 +1,4 @@
-//! Tables of a machine, gathered as one user's table.
+//! Gathers the tables of a machine as one user's table.
 #![tactic(auto)]
 
 mod answer;

@@ -6,7 +6,7 @@ use cs_civil::Bytes;
 use cs_crontab::When;
 use std::alloc::{AllocError, Global};
 
-/// A command that was gathered, and what the comment above it says.
+/// A command that was gathered, and the comment above it.
 #[derive(Drop)]
 pub(crate) struct Gathered {
     /// The number of its line in its table.
@@ -20,7 +20,6 @@ pub(crate) struct Gathered {
 }
 
 impl Gathered {
-    /// Copies what a table says of a command.
     pub(crate) fn new(
         alloc: Global,
         name: &[u8],

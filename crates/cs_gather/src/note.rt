@@ -1,4 +1,4 @@
-//! What there is to say of tables beside what is gathered of them.
+//! Notes and warnings about tables.
 use crate::table::Table;
 use cs_place::push_shown;
 use cs_report::{first_behind_user, is_no_user, is_unheeded};
@@ -7,7 +7,7 @@ use cs_table::Setting;
 use cs_table::text::word;
 use std::alloc::{AllocError, Global};
 
-/// Adds a line to the text: these parts, each so that it stays one line.
+/// Adds the parts as one line.
 pub(crate) fn push_line(text: &mut Vec<u8>, parts: &[&[u8]]) -> Result<(), AllocError> {
     for part in parts {
         push_shown(text, *part)?;
@@ -15,8 +15,8 @@ pub(crate) fn push_line(text: &mut Vec<u8>, parts: &[&[u8]]) -> Result<(), Alloc
     text.extend_from_slice(b"\n")
 }
 
-/// Adds that something is ignored, and why; but nothing of the file with which Debian's packages
-/// keep folders.
+/// Notes that something is ignored, and why; except for the file by which Debian's packages keep
+/// folders.
 pub(crate) fn push_ignored(
     text: &mut Vec<u8>,
     folder: &str,
@@ -30,7 +30,7 @@ pub(crate) fn push_ignored(
     push_line(text, &[b"note: ", folder, name, b" is ignored: ", why])
 }
 
-/// Adds a line to the text: what it is of, its place on a line of a table, and the rest.
+/// Adds a line with a place: the start, ` on line N of PATH`, and the rest.
 pub(crate) fn push_at(
     alloc: Global,
     text: &mut Vec<u8>,
@@ -45,8 +45,8 @@ pub(crate) fn push_at(
     push_line(text, rest)
 }
 
-/// Adds why Debian's cron ignores a table, if it does: others may write to it, or it has no newline
-/// at its end.
+/// Notes why Debian's cron ignores a table: others may write to it, or it has no newline at its
+/// end.
 fn push_unread(
     text: &mut Vec<u8>,
     path: &str,
@@ -65,7 +65,7 @@ fn push_unread(
     push_line(text, &[b"note: ", path, end])
 }
 
-/// Adds the warning of each setting that other daemons heed.
+/// Warns of each setting that only other daemons heed.
 fn push_unheeded(
     alloc: Global,
     text: &mut Vec<u8>,
@@ -82,7 +82,7 @@ fn push_unheeded(
     Ok(())
 }
 
-/// Adds the warning of the first user that is probably a command.
+/// Warns of the first user that is probably a command.
 fn push_no_user(
     alloc: Global,
     text: &mut Vec<u8>,
@@ -106,8 +106,7 @@ fn push_no_user(
     Ok(())
 }
 
-/// Adds what there is to note and to warn of in a table of these bytes, to which others may write
-/// or not.
+/// Adds the notes and warnings about a table; `is_open` says whether others may write to it.
 pub(crate) fn push_warnings(
     alloc: Global,
     text: &mut Vec<u8>,

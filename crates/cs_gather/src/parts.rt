@@ -10,8 +10,8 @@ use cs_command::{RunParts, run_parts};
 use cs_io::{FileKind, Folders};
 use std::alloc::{AllocError, Global};
 
-/// The names of the parts in a folder, in their order; nothing if there is no such folder. What
-/// run-parts(8) doesn't run is ignored.
+/// The names of the parts in a folder, in their order; none if there is no folder. Notes what
+/// run-parts(8) doesn't run.
 fn names_in<I: Folders>(
     alloc: Global,
     inputs: &mut I,
@@ -43,7 +43,7 @@ fn names_in<I: Folders>(
     Ok(Some(names))
 }
 
-/// The parts of a command of the table at a path, none if they aren't known.
+/// The parts of a command; empty if they are unknown.
 fn parts_of<I: Folders>(
     alloc: Global,
     inputs: &mut I,
@@ -90,13 +90,13 @@ fn parts_of<I: Folders>(
     Ok(none)
 }
 
-/// Whether a command runs what follows only where there is no anacron.
+/// Whether the command runs the rest only where there is no anacron.
 fn is_without_anacron(command: &[u8]) -> bool {
     command.starts_with(b"test -x /usr/sbin/anacron ||".as_slice())
         || command.starts_with(b"[ -x /usr/sbin/anacron ] ||".as_slice())
 }
 
-/// Adds a note on a command of the table at a path that anacron keeps from running anything.
+/// Notes a command that runs nothing, since anacron is there.
 fn push_anacron<I: Folders>(
     alloc: Global,
     inputs: &mut I,
@@ -122,8 +122,7 @@ fn push_anacron<I: Folders>(
     }
 }
 
-/// The parts of each of these commands of the table at a path, where a root folder is asked. A
-/// warning names a folder that can't be read.
+/// The parts of each command, if a root folder is given. Warns of folders that can't be read.
 pub(crate) fn parts_asked<I: Folders>(
     alloc: Global,
     inputs: &mut I,

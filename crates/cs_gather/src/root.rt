@@ -23,7 +23,7 @@ pub(crate) fn front(root: &str) -> &str
     }
 }
 
-/// Sees that there is a root folder: where there was none, a read says so.
+/// Reads the root folder if it isn't there, for the error of the read.
 fn confirm<I: Folders>(
     alloc: Global,
     inputs: &mut I,
@@ -48,7 +48,7 @@ fn confirm<I: Folders>(
     }
 }
 
-/// The tables below a root folder, in the order in which they are gathered.
+/// The tables below a root folder, in the order of gathering.
 pub(crate) fn tables_below<I: Folders>(
     alloc: Global,
     inputs: &mut I,
@@ -62,7 +62,7 @@ pub(crate) fn tables_below<I: Folders>(
     ensures fails { IfErr result (IsUnlisted (I.failed inputs.new) (I.reads inputs.new)) }
     ensures turn { AreSomeRead (I.reads inputs.old) (I.reads inputs.new) }
 {
-    // by the name of standard input it is no standard input
+    // a folder named `-` is not standard input
     let folder = if root == "-" { "./-" } else { root };
     let is_there = names_at(alloc, inputs, folder)?.is_some();
     let front = front(root);

@@ -14,13 +14,10 @@ use std::alloc::{AllocError, Global};
 /// A system table, or that of a user.
 #[derive(Drop)]
 pub(crate) enum Table {
-    /// Its lines name users.
     System(SystemTable),
-    /// Its lines are those of one user.
     User(Crontab),
 }
 
-/// A fault of a user's table, as one of a system table.
 fn as_system(fault: cs_crontab::TableFault) -> GatherFault
     ensures { result ≡ as_system fault }
 {
@@ -40,7 +37,7 @@ fn as_system(fault: cs_crontab::TableFault) -> GatherFault
     }
 }
 
-/// The table that the bytes say, or its first fault.
+/// The table of the bytes, or its first fault.
 pub(crate) fn read_table(alloc: Global, given: &Given, bytes: &[u8]) -> Result<Table, GatherFault>
     ensures table { IfOk result (Denotes given.now.user bytes.now) }
     ensures fault { IfErr result (HasFault given.now.user bytes.now) }
@@ -90,7 +87,6 @@ fn user_commands(
 }
 
 impl Table {
-    /// Its commands, each with its place.
     pub(crate) fn commands(&self, alloc: Global, given: &Given) -> Result<Vec<Gathered>, AllocError>
         ensures { IfOk result (λ commands. commands.items ≡ commands_of given.now self.now) }
     {

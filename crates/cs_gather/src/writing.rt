@@ -1,4 +1,4 @@
-//! The lines of a table, as those of the text.
+//! The lines of a table in the gathered text.
 ghost use Rattle.std.specs.Prelude.{◌≡◌, ◌≤◌, IfErr, length};
 ghost use Rattle.cs_crontab.specs.declared.fault.LineFault.TheVariants.{TooLong};
 ghost use Rattle.cs_table.specs.declared.limits.TheConstants.{MAX_TABLE};
@@ -19,8 +19,8 @@ use cs_table::text::{first_line, skip_blanks};
 use cs_table::{MAX_LINE, MAX_TABLE, Wrong};
 use std::alloc::{AllocError, Global};
 
-/// Adds the place of a command, its parts, and the command. Says whether the text stays short
-/// enough.
+/// Adds the place of a command, its parts, and the command. Returns whether the text and its
+/// comments are short enough.
 fn push_command(
     text: &mut Vec<u8>,
     line: &[u8],
@@ -50,8 +50,8 @@ fn push_command(
     Ok(is_short && text.len() <= MAX_TABLE)
 }
 
-/// Adds the comment of a setting, `# NAME:LINE SETTING`, or `# NAME:LINE` if that is too long; and
-/// nothing for another line. Says whether the text stays short enough.
+/// Adds the comment of a setting, `# NAME:LINE SETTING`, or `# NAME:LINE` if that is too long;
+/// nothing for another line. Returns whether the text and the comment are short enough.
 fn push_setting(
     alloc: Global,
     text: &mut Vec<u8>,
@@ -83,7 +83,7 @@ fn overflow(fault: LineFault, number: u32, line: &[u8]) -> GatherFault
     Wrong::whole(SystemFault::Line(fault), skip_blanks(line)).at(number, line)
 }
 
-/// Adds the lines of a table with these commands, for some of which there is room, and their parts.
+/// Adds the lines of a table; `room` is how many commands may still be added.
 pub(crate) fn push_lines(
     alloc: Global,
     text: &mut Vec<u8>,

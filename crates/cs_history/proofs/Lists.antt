@@ -1,4 +1,4 @@
--- lemmas on lists
+-- Lemmas on lists.
 use Rattle.std.proofs.Common.{ℕ, zero, suc, ◌+◌, ◌<◌, ◌≤◌, ◌≡◌, max, Bool, true, false, not, ◌&&◌, ◌||◌, cond, if◌then◌else◌, List, [], ◌∷◌, ◌++◌, map, filter, refl, sym, ap, ◌∙◌, arith, inl, inr, ⊎_elim, ◌⊎◌}
 use Rattle.std.specs.List.{AllByRecursion, list_any}
 use Rattle.std.proofs.lemmas.Bool.{cond_both, cases_lt, cases_eq, or_parts, or_cases}
@@ -52,7 +52,7 @@ pub none_pass : {X : Type 0} (t : X → Bool) (xs : List X) → AllByRecursion (
 none_pass t [] a = refl
 none_pass t (x ∷ xs) a = either_false (t x) (list_any t xs) a.0 (none_pass t xs a.1)
 
--- what holds for each holds for one that passes
+-- what holds of each holds of one that passes
 pub any_at : {X : Type 0} (t : X → Bool) (P : X → Type 0) (xs : List X) → list_any t xs ≡ true → AllByRecursion P xs → (x : X) × (t x ≡ true) × P x
 any_at t P [] e a = absurd (cc)
 any_at {X} t P (x ∷ xs) e a =
@@ -102,7 +102,7 @@ without_step : {X : Type 0} (t : X → Bool) (f : X → ℕ) (m : ℕ) (x : X) (
 without_step t f m x xs big ih true s h = omega (arith, big s, total-filter (λ y. not (t y)) f xs)
 without_step t f m x xs big ih false s h = omega (arith, ih h)
 
--- without those that pass, of which there is one, at least m is gone
+-- without those that pass, of which there is one, the total is less by m at least
 pub total_without : {X : Type 0} (t : X → Bool) (f : X → ℕ) (m : ℕ) (xs : List X) → ((x : X) → t x ≡ true → m ≤ f x) → list_any t xs ≡ true → total f (filter (λ x. not (t x)) xs) + m ≤ total f xs
 total_without t f m [] big e = absurd (cc)
 total_without t f m (x ∷ xs) big e = without_step t f m x xs (big x) (total_without t f m xs big) (t x) refl e
@@ -131,12 +131,10 @@ pub total_sum : {X : Type 0} (f g : X → ℕ) (xs : List X) → total (λ x. f 
 total_sum f g [] = omega arith
 total_sum f g (x ∷ xs) = omega (arith, total_sum f g xs)
 
--- the order of two sums
 pub total_swap : {X Y : Type 0} (f : X → Y → ℕ) (xs : List X) (ys : List Y) → total (λ x. total (f x) ys) xs ≡ total (λ y. total (λ x. f x y) xs) ys
 total_swap f [] ys = sym (total_zero (λ y. 0) ys (all_any (λ y. 0 ≡ 0) ys (λ _. refl)))
 total_swap f (x ∷ xs) ys = ap (λ n. total (f x) ys + n) (total_swap f xs ys) ∙ sym (total_sum (f x) (λ y. total (λ x. f x y) xs) ys)
 
--- the term at a number below n is within the sum
 pub term_below : (f : ℕ → ℕ) (n k : ℕ) → k < n → f k ≤ total f (below n)
 term_below f zero k l = absurd (omega arith)
 term_below f (suc n) k l =
@@ -184,7 +182,6 @@ module _ {X : Type 0} (t s : X → Bool) (f : X → ℕ) where
   pub holders_total : (xs : List X) → EachPair (λ x y. ((t y && t x) && not (s y && s x)) ≡ false) xs → total held xs ≤ max (greatest held_alone xs) (total held_shared xs)
   holders_total xs a = ⊎_elim (λ (h : total held xs ≤ greatest held_alone xs). omega (arith, h)) (λ (h : total held xs ≤ total held_shared xs). omega (arith, h)) (holders xs a)
 
--- at most one passes
 lone_step : {X : Type 0} (t : X → Bool) (f : X → ℕ) (x : X) (xs : List X) (a : Bool) → AllByRecursion (λ y. (t y && a) ≡ false) xs → total (λ y. if t y then f y else 0) xs ≤ greatest (λ y. if t y then f y else 0) xs
     → (if a then f x else 0) + total (λ y. if t y then f y else 0) xs ≤ max (if a then f x else 0) (greatest (λ y. if t y then f y else 0) xs)
 lone_step t f x xs false p ih = omega (arith, ih)
@@ -200,12 +197,11 @@ pub lone_total : {X : Type 0} (t : X → Bool) (f : X → ℕ) (xs : List X) →
 lone_total t f [] a = omega arith
 lone_total t f (x ∷ xs) a = lone_step t f x xs (t x) a.0 (lone_total t f xs a.1)
 
--- no term passes the sum, whichever the sum
 pub all_terms : {X : Type 0} (f : ℕ → X → ℕ) (xs : List X) → AllByRecursion (λ x. (g : ℕ) → f g x ≤ total (f g) xs) xs
 all_terms f [] = tt
 all_terms f (x ∷ xs) = (λ g. omega arith, all_map (λ y. (g : ℕ) → f g y ≤ total (f g) xs) (λ y. (g : ℕ) → f g y ≤ f g x + total (f g) xs) xs (λ y l g. omega (arith, l g)) (all_terms f xs))
 
--- where f is 0 but at k, and at most 1 there, the sum below any number is at most 1
+-- if f is at most 1 at k and 0 elsewhere, the sum below any number is at most 1
 pub once_below : (f : ℕ → ℕ) (k : ℕ) → ((j : ℕ) → (j ≡ k → ⊥) → f j ≡ 0) → f k ≤ 1 → (m : ℕ) → (total f (below m) ≤ 1) × (m ≤ k → total f (below m) ≡ 0)
 once_below f k other at zero = (omega arith, λ _. refl)
 once_below f k other at (suc m) =

@@ -23,7 +23,7 @@ same_from r q a b = and_from (r.job == q.job) (r.at == q.at) (eq-eqb r.job q.job
 pub run_is : (r q : Run) → same_run r q ≡ true → r ≡ q
 run_is r q e = let h = same_parts r q e in λ i. record { job = h.0 i; at = h.1 i }
 
--- of one name, so of one kind
+-- runs of different kinds differ
 pub not_same : (p : Plan) (n r : Run) (s : Bool) → is_cron p n.job ≡ s → is_cron p r.job ≡ not s → same_run n r ≡ false
 not_same p n r true a c = false_from_ne_true (same_run n r) (λ e. both_ways (is_cron p r.job) c (ap (is_cron p) (sym (same_parts n r e).0) ∙ a))
 not_same p n r false a c = false_from_ne_true (same_run n r) (λ e. both_ways (is_cron p n.job) a (ap (is_cron p) (same_parts n r e).0 ∙ c))
@@ -89,7 +89,6 @@ listed p (suc n) l = listed_step p n (omega (arith, l)) (listed p n (omega (arit
 pub of_owed : (p : Plan) (ss : List (Option ℕ)) (rs : List Going) (t : ℕ) → AreAnacron p (jobs_left (pass_of t (owed_at p ss rs t)))
 of_owed p ss rs t = of_list p t (owed_at p ss rs t) (all-filter (IsAnacron p) _ (by_delay p) (listed p p.jobs (omega arith)))
 
--- what is due is of cron
 due_cron : (p : Plan) (t : ℕ) → AllByRecursion (λ j. is_cron p j ≡ true) (due_at p t)
 due_cron p t = all-filter (λ j. is_cron p j ≡ true) (λ j. p.due j t) (below p.crons) (all_map (λ j. j < p.crons) (λ j. is_cron p j ≡ true) (below p.crons) (λ j h. lt-ltb j p.crons h) (all_below p.crons))
 
@@ -158,7 +157,6 @@ module _ (p : Plan) (s : State) (k : AreNamed p s) where
         lone = omega (arith, k.lone, total_push (λ (q : Going). one (not (is_cron p q.run.job))) s.running r, one_no (not (is_cron p w.job)) (ap not was.1));
       }
 
-  -- a name that nobody of one kind has
   none_waits : (n : Run) → is_cron p n.job ≡ false → total (λ (w : Run). one (same_run n w)) s.waiting ≡ 0
   none_waits n e = total_zero (λ (w : Run). one (same_run n w)) s.waiting (all_map (λ w. is_cron p w.job ≡ true) (λ w. one (same_run n w) ≡ 0) s.waiting (λ w c. one_no (same_run n w) (not_same p n w false e c)) k.waiting)
 
@@ -291,7 +289,7 @@ pub named : (p : Plan) (h : History) → IsLegal p h → AreNamed p (state_of p 
 named p (From s) legal = named_start p s
 named p (h ▸ e) legal = subst (AreNamed p) (sym (stands p h e)) (named_step p (state_of p h) e (if_legal p h e legal.1) (named p h legal.0))
 
--- counted once, so different
+-- what is counted once differs from the others
 
 pub none_same : {X : Type 0} (f : X → Run) (n : Run) (xs : List X) → total (λ x. one (same_run n (f x))) xs ≤ 0 → AllByRecursion (λ x. same_run n (f x) ≡ false) xs
 none_same f n [] e = tt
@@ -308,7 +306,7 @@ both_differ : {X : Type 0} (f : X → Run) (xs : List X) (rs : List Going) → (
 both_differ f [] rs once = tt
 both_differ f (x ∷ xs) rs once = (none_same (λ (r : Going). r.run) (f x) rs (omega (arith, once (f x), one_same (f x))), both_differ f xs rs (λ n. omega (arith, once n)))
 
--- of those that pass there is one at most
+-- of those that pass there is at most one
 lone_step : {X : Type 0} (t : X → Bool) (a : Bool) (xs : List X) → one a + total (λ x. one (t x)) xs ≤ 1 → AllByRecursion (λ y. (t y && a) ≡ false) xs
 lone_step t a [] l = tt
 lone_step t a (x ∷ xs) l = (not_both (t x) a (omega (arith, l)), lone_step t a xs (omega (arith, l)))

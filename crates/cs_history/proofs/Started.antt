@@ -18,11 +18,11 @@ use Rattle.cs_history.proofs.Names.{same_parts, same_from, run_is, not_same, one
 abbrev Told : Plan → ℕ → List Going → List (Option ℕ) → Run → Type 0
 Told p t rs ss q = (list_any (λ x. same_run q x.run) rs ≡ true) ⊎ (get_or ss (q.job - p.crons) None ≡ Some (t / 1440))
 
--- no run of an anacron job that runs started before this one
+-- no running run of an anacron job started before this one
 abbrev IsNoLater : Plan → List Going → Going → Type 0
 IsNoLater p rs q = AllByRecursion (λ r. is_cron p r.run.job ≡ false → q.run.at ≤ r.run.at) rs
 
--- of the runs that have started, those that run, the stamps and the jobs left to a pass
+-- what holds of the runs that have started, those that run, the stamps, and the jobs left to a pass
 record Kept (p : Plan) (t : ℕ) (all rs : List Going) (ss : List (Option ℕ)) (js : List ℕ) : Type 0 where
   past : AllByRecursion (λ q. q.run.at ≤ t) all
   single : (n : Run) → is_cron p n.job ≡ false → total (λ q. one (same_run n q.run)) all ≤ 1
@@ -50,7 +50,7 @@ any_last t (x ∷ xs) y e = go (t x) (any_last t xs y e)
     go true rest = refl
     go false rest = rest
 
--- what passes t stays where what is taken out does not pass it
+-- what passes t stays if s keeps all that pass t
 any_kept : {X : Type 0} (t s : X → Bool) (xs : List X) → ((x : X) → t x ≡ true → s x ≡ true) → list_any t xs ≡ true → list_any t (filter s xs) ≡ true
 any_kept t s [] h e = absurd (cc)
 any_kept {X} t s (x ∷ xs) h e = go (t x) (s x) refl refl e (any_kept t s xs h)

@@ -89,7 +89,7 @@ if_legal p h (Up t) m = passes _ _ _ (ap not m.down) (passes _ _ _ (if_civil t m
 pub legal : (p : Plan) (h : History) (e : Event) → (refusal p (state_of p h) e ≡ None) ↔ May p h e
 legal p h e = (legal_if p h e, if_legal p h e)
 
--- a call that steps the state follows each history that the state stands for
+-- a call that steps a state follows each history that leaves that state
 pub follows : (p : Plan) (h : History) (e : Event) (result : Result Reply Refusal) (old new : State) → old ≡ state_of p h → Steps p old e result new → Follows p h e result new
 follows p h e (Ok r) old new is s = (
   legal_if p h e (subst (λ o. refusal p o e ≡ None) is s.0),
@@ -98,7 +98,6 @@ follows p h e (Ok r) old new is s = (
 )
 follows p h e (Err f) old new is s = (subst (λ o. IsFirst f (refusal p o e)) is s.0, s.1 ∙ is)
 
--- a legal history stays in the minutes that it may reach
 pub reached : (p : Plan) (h : History) → IsLegal p h → IsReached (now h)
 reached p (From s) legal = legal
 reached p (h ▸ Minute t) legal = let c = reached p h legal.0 in record { first = omega (arith, c.first, legal.1.next); last = legal.1.civil.last }

@@ -12,8 +12,8 @@ use Rattle.cs_history.specs.declared.run.Going.{Going}
 abbrev pub opens : Plan → ℕ → ℕ → Bool
 opens p j d = if is_cron p j then p.due j d else (d % 1440 == p.from)
 
--- how many minutes its windows last: the declared time, of those that wait what c gives them; a
--- catch-up run may start in the last of the catch-up hours' minutes
+-- how many minutes its windows last: the declared time, or what c gives a job that waits; a
+-- catch-up run may start up to the last minute of the catch-up hours
 abbrev pub reach : Plan → (ℕ → ℕ) → ℕ → ℕ
 reach p c j =
     if is_cron p j then (if waits p j then c j else p.limit j) else (p.to - 1 + p.limit j) - p.from
@@ -25,12 +25,11 @@ pub record Holds (p : Plan) (c : ℕ → ℕ) (t : ℕ) (w : Run) : Type 0 where
   pub begun : w.at ≤ t
   pub lasts : t < w.at + reach p c w.job
 
--- what the windows of cron jobs without a lock weigh together
 abbrev pub plain_load : Plan → List Run → ℕ
 plain_load p ws =
     total (λ w. if is_cron p w.job && not (takes_lock p w.job) then p.weight w.job else 0) ws
 
--- what can hold the lock of group g at once: one that does not share it, or all that share it
+-- the most that holders of group g's lock weigh at once: one that doesn't share it, or all that do
 abbrev pub lock_load : Plan → List Run → ℕ → ℕ
 lock_load p ws g = max (greatest
     (λ w. if locks p g w.job && not (shares p w.job) then p.weight w.job else 0) ws)
@@ -47,7 +46,7 @@ load p ws = plain_load p ws + total (lock_load p ws) (below p.groups) + catch_lo
 abbrev pub AreDifferent : List Run → Type 0
 AreDifferent ws = EachPair (λ v w. same_run v w ≡ false) ws
 
--- of all the windows, whenever they began, those that hold minute t can do no harm
+-- the windows that hold minute t, whenever they began, can do no harm
 pub record IsCalm (p : Plan) (c : ℕ → ℕ) (t : ℕ) : Type 0 where
   -- two cron windows of one exclusive group are both of lock takers
   pub exclusive : (v w : Run) → Holds p c t v → Holds p c t w → same_run v w ≡ false
@@ -67,12 +66,13 @@ pub record IsCalm (p : Plan) (c : ℕ → ℕ) (t : ℕ) : Type 0 where
 abbrev pub arrives : Plan → ℕ → ℕ → ℕ
 arrives p g t = total (λ j. if locks p g j then p.limit j else 0) (due_at p t)
 
--- b bounds the minutes that are left to do for group g before what arrives at the minute
+-- b bounds the minutes that are left to do for group g, before what arrives at the minute
 pub record IsBacklog (p : Plan) (c : ℕ → ℕ) (g : ℕ) (b : ℕ → ℕ) : Type 0 where
-  -- from minute to minute what arrives is added and the lock's holder takes off one; asked only
+  -- from minute to minute, what arrives is added and the lock's holder takes off one; asked only
   -- where both minutes can be reached
   pub falls : (t : ℕ) → IsReached t → IsReached (t + 1) → (b t + arrives p g t) - 1 ≤ b (t + 1)
-  -- within the reach of each run that waits it is 0, or no minute is left that can be reached
+  -- at some minute within the reach of each run that waits it is 0, unless that minute can't be
+  -- reached
   pub clears : (j d : ℕ) → is_cron p j ≡ true → waits p j ≡ true → locks p g j ≡ true → IsReached d
       → p.due j d ≡ true → (z : ℕ) × (d < z) × (z ≤ d + c j) × (IsReached z → b z ≡ 0)
 
@@ -87,7 +87,8 @@ pub record HasWaiter (p : Plan) (g : ℕ) : Type 0 where
 abbrev pub IsBounded : Plan → (ℕ → ℕ) → (ℕ → ℕ → ℕ) → Type 0
 IsBounded p c b = (g : ℕ) → HasWaiter p g → IsBacklog p c g (b g)
 
--- the window of a running run: from its due minute, or from the catch-up hours of its start's day
+-- the window of a running run: from its due minute, or from the catch-up hours of the day it
+-- started
 abbrev pub window_of : Plan → Going → Run
 window_of p r = record {
   job = r.run.job;

@@ -1,4 +1,4 @@
--- Worked examples: plans, and what a script is answered.
+-- Worked examples: plans, and the answers to scripts.
 use Rattle.std.specs.Prelude.{ℕ, ◌+◌, ◌%◌, ◌/◌, Bool, true, false, ◌&&◌, ◌||◌, List, [], ◌∷◌, Option, Some, None, get_or, ◌==◌, if◌then◌else◌, nat_lt, nat_le, length}
 use Rattle.cs_history.specs.Plan.{Plan}
 use Rattle.cs_history.specs.History.{History, From, history, ◌▸◌}
@@ -23,12 +23,11 @@ abbrev pub follow : Option Refusal → History → Event → History
 follow None h e = h ▸ e
 follow (Some f) h e = h
 
--- the history that a script leaves
 abbrev pub story : Plan → History → List Event → History
 story p h [] = h
 story p h (e ∷ es) = story p (follow (refusal p (state_of p h) e) h e) es
 
--- what each event of a script is answered
+-- the answer to each event of a script
 abbrev pub answers : Plan → History → List Event → List Outcome
 answers p h [] = []
 answers p h (e ∷ es) = outcome_of (refusal p (state_of p h) e) (reply p (state_of p h) e)
@@ -37,7 +36,7 @@ answers p h (e ∷ es) = outcome_of (refusal p (state_of p h) e) (reply p (state
 abbrev pub start : ℕ → Bool → List (Option ℕ) → History
 start t up stamps = From (record { now = t; up = up; stamps = stamps })
 
--- 2024-01-01 at this minute of the day; the day has number 19723
+-- 2024-01-01, day 19,723, at this minute of the day
 abbrev pub at : ℕ → ℕ
 at m = 28401120 + m
 
@@ -61,12 +60,12 @@ hourly minutes modes limits = record {
   pass_minute = None;
 }
 
--- due each day: no stamp, a stamp of a later day, or one of a day before
+-- due each day: no stamp, a stamp of a later day, or one of an earlier day
 abbrev pub daily : Option ℕ → ℕ → Bool
 daily None today = true
 daily (Some s) today = nat_lt today s || nat_le (s + 1) today
 
--- anacron jobs due each day with these delays
+-- anacron jobs due each day, with these delays
 abbrev pub catching : List ℕ → ℕ → ℕ → Option ℕ → Plan
 catching delays from to pass_minute = record {
   crons = 0;
@@ -86,7 +85,7 @@ catching delays from to pass_minute = record {
   pass_minute = pass_minute;
 }
 
--- cron jobs of one group due by `due`, each of weight w
+-- cron jobs of one group, each of weight w
 abbrev pub plan_of : ℕ → List Mode → (ℕ → ℕ → Bool) → ℕ → Bool → (ℕ → ℕ) → ℕ → Plan
 plan_of n modes due capacity exclusive limit w = record {
   crons = n;
@@ -126,8 +125,8 @@ midnights l = plan_of 1 [] (at_of (0 ∷ [])) 3 true (λ _. l) 1
 abbrev pub sundays : Plan
 sundays = plan_of 1 [] (λ j t. ((t / 1440 + 4) % 7 == 0) && (t % 1440 == 720)) 3 true (λ _. 4320) 1
 
--- a cron job at minute m of the day, and two anacron jobs of its group, all of up to an hour, with
--- catch-up hours 03:00 to 05:00
+-- a cron job at minute m of the day and two anacron jobs, all of one group and of up to an hour,
+-- with catch-up hours 03:00 to 05:00
 abbrev pub beside_catch_up : ℕ → Plan
 beside_catch_up m = record {
   crons = 1;
@@ -151,7 +150,7 @@ beside_catch_up m = record {
 abbrev pub heavy : Mode → Plan
 heavy m = plan_of 2 (m ∷ m ∷ []) (at_of (0 ∷ 0 ∷ [])) 3 true (λ _. 10) 2
 
--- at each full hour a job of 20 minutes that waits, at minute 49 a skip job
+-- a job of 20 minutes that waits, at each full hour, and a skip job at minute 49
 abbrev pub skipping : Plan
 skipping = plan_of 2 (Wait ∷ Skip ∷ []) (λ j t. t % 60 == get_or (0 ∷ 49 ∷ []) j 0) 3 true
     (λ j. if j == 0 then 20 else 10) 1
@@ -181,7 +180,7 @@ abbrev pub all_begin : History
 all_begin = history (record { now = at 59; up = true; stamps = [] })
     (Minute (at 60) ∷ Begin 0 ∷ Begin 1 ∷ Begin 2 ∷ [])
 
--- two jobs of an exclusive group, both at 01:00: the one of this mode, the other waits
+-- two jobs of an exclusive group at 01:00: one of this mode, and one that waits
 abbrev pub at_one : Mode → Plan
 at_one m = plan_of 2 (m ∷ Wait ∷ []) (at_of (60 ∷ 60 ∷ [])) 3 true (λ _. 20) 1
 

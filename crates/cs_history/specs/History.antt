@@ -22,7 +22,6 @@ pub data History : Type 0 where
   From : Start → History
   ◌▸◌ : History → Event → History
 
--- the history of a list of events
 abbrev pub history : Start → List Event → History
 history s es = fold (λ h e. h ▸ e) (From s) es
 
@@ -36,7 +35,7 @@ same_run r q = (r.job == q.job) && (r.at == q.at)
 abbrev pub going : ℕ → ℕ → ℕ → Going
 going j d t = record { run = run_of j d; since = t }
 
--- the present minute: going down leaves it as it is
+-- the present minute, which an outage doesn't move on
 abbrev pub now : History → ℕ
 now (From s) = s.now
 now (h ▸ Minute t) = t
@@ -49,7 +48,7 @@ is_up (h ▸ Down) = false
 is_up (h ▸ Up t) = true
 is_up (h ▸ e) = is_up h
 
--- the lock of a job is free for it where these run
+-- where these runs go on, the lock of the job is free for it
 abbrev pub is_free : Plan → List Going → ℕ → Bool
 is_free p rs j = not (list_any (λ r. in_the_way p j r.run.job) rs)
 
@@ -67,23 +66,21 @@ when_held Try = Skips
 when_held Wait = Waits
 when_held Shared = Waits
 
--- where these run
+-- the answer where these runs go on
 abbrev pub answer : Plan → List Going → ℕ → Answer
 answer p rs j = if is_free p rs j then Starts else when_held (p.mode j)
 
--- with the run, where it starts
 abbrev pub with_started : Answer → List Going → Going → List Going
 with_started Starts rs r = rs ++ r ∷ []
 with_started Waits rs r = rs
 with_started Skips rs r = rs
 
--- with the run, where it waits
 abbrev pub with_waiting : Answer → List Run → Run → List Run
 with_waiting Starts ws w = ws
 with_waiting Waits ws w = ws ++ w ∷ []
 with_waiting Skips ws w = ws
 
--- the runs that have started and not ended, in order of start; Down ends none, as in cron(8)
+-- the runs that have started and not ended, in order of start; going down ends none (cron(8))
 abbrev pub running : Plan → History → List Going
 running p (From s) = []
 running p (h ▸ Begin j) =
@@ -103,7 +100,7 @@ pending p (h ▸ Down) = []
 pending p (h ▸ Up t) = []
 pending p (h ▸ e) = pending p h
 
--- the runs that wait for a lock (flock(1)), in order of Begin: going down ends the waiting
+-- the runs that wait for a lock (flock(1)), in order of Begin; going down ends the waiting
 abbrev pub waiting : Plan → History → List Run
 waiting p (From s) = []
 waiting p (h ▸ Begin j) = with_waiting (answer p (running p h) j) (waiting p h) (run_of j (now h))
@@ -112,8 +109,8 @@ waiting p (h ▸ Down) = []
 waiting p (h ▸ Up t) = []
 waiting p (h ▸ e) = waiting p h
 
--- the stamps (anacron(8)), one for each anacron job: those of the start, none for those that it
--- does not reach; when a run ends, its job's stamp is the day on which the run started
+-- one stamp for each anacron job (anacron(8)): at first that of the start, or none if the start has
+-- too few; when a run ends, the day on which it started
 abbrev pub stamps : Plan → History → List (Option ℕ)
 stamps p (From s) = take (p.jobs - p.crons) (s.stamps ++ replicate (p.jobs - p.crons) None)
 stamps p (h ▸ End r) =
@@ -144,7 +141,7 @@ abbrev pub without_first : Option Pass → Option Pass
 without_first None = None
 without_first (Some o) = elim o.left [ [] ↦ None | j ∷ js ↦ pass_of o.at js ]
 
--- the open pass (anacron(8) with -s): it begins at a coming up and at the pass minute, and is over
+-- the open pass (anacron(8) with -s): one begins at a coming up and at the pass minute, and ends
 -- when its last job has started, or at a going down
 abbrev pub pass : Plan → History → Option Pass
 pass p (From s) = None
@@ -176,7 +173,8 @@ pub record MayGet (p : Plan) (h : History) (r : Run) : Type 0 where
   pub is_waiting : list_any (same_run r) (waiting p h) ≡ true
   pub free : is_free p (running p h) r.job ≡ true
 
--- the open pass's first job, its delay over, in the catch-up hours, one at a time (anacron(8) -s)
+-- the first job of the open pass may start once its delay is over, in the catch-up hours, and while
+-- no anacron job runs (anacron(8) with -s)
 pub record MayCatch (p : Plan) (h : History) (j : ℕ) : Type 0 where
   pub up : is_up h ≡ true
   pub begun : ℕ
@@ -202,31 +200,32 @@ May p h (End r) = list_any (λ x. same_run r x.run) (running p h) ≡ true
 May p h Down = is_up h ≡ true
 May p h (Up t) = MayUp h t
 
--- each event might come when it came
+-- the start is a minute that a history may reach, and each event might come when it came
 abbrev pub IsLegal : Plan → History → Type 0
 IsLegal p (From s) = IsReached s.now
 IsLegal p (h ▸ e) = IsLegal p h × May p h e
 
--- the run has not passed its declared time at t
+-- at t the run has not used up its declared time
 abbrev pub IsWithin : Plan → ℕ → Going → Type 0
 IsWithin p t r = t < r.since + p.limit r.run.job
 
--- each run has ended within its declared time, also across an outage
+-- at each minute that is reached, each run has ended or is within its declared time, also across an
+-- outage
 abbrev pub IsInTime : Plan → History → Type 0
 IsInTime p (From s) = ⊤
 IsInTime p (h ▸ Minute t) = IsInTime p h × AllByRecursion (IsWithin p t) (running p h)
 IsInTime p (h ▸ Up t) = IsInTime p h × AllByRecursion (IsWithin p t) (running p h)
 IsInTime p (h ▸ e) = IsInTime p h
 
--- no two runs of an exclusive group run at once but such as both share the lock, and the weights
--- are within the capacity
+-- of two runs of an exclusive group that run at once, both share its lock; and together all runs
+-- weigh at most the capacity
 pub record IsSafeNow (p : Plan) (h : History) : Type 0 where
   pub apart : EachPair
       (λ r q. (rivals p q.run.job r.run.job && not (both_share p q.run.job r.run.job)) ≡ false)
       (running p h)
   pub load : total (λ r. p.weight r.run.job) (running p h) ≤ p.capacity
 
--- the event is no Begin of mode skip that is skipped; one of mode try may be
+-- no Begin of mode skip that is skipped; one of mode try may be
 abbrev pub IsNoSkip : Plan → History → Event → Type 0
 IsNoSkip p h (Begin j) = p.mode j ≡ Skip → answer p (running p h) j ≢ Skips
 IsNoSkip p h e = ⊤

@@ -10,7 +10,7 @@ use Rattle.cs_history.specs.Step.{State, state_of, reply}
 abbrev pub told : Start → List (Event × Reply) → History
 told s es = fold (λ h e. h ▸ e.0) (From s) es
 
--- from h on, each reply is the one that the history has
+-- each reply is the one that the history gives, from h on
 abbrev pub AreReplies : Plan → History → List (Event × Reply) → Type 0
 AreReplies p h [] = ⊤
 AreReplies p h (e ∷ es) = (e.1 ≡ reply p (state_of p h) e.0) × AreReplies p (h ▸ e.0) es

@@ -1,4 +1,5 @@
--- Names of runs: a job and the minute in which it was due, or an anacron job's run started.
+-- Names of runs: a job and the minute in which it was due, or in which an anacron job's run
+-- started.
 use Rattle.std.specs.Prelude.{◌≡◌, ℕ, ◌+◌, ◌<◌, ◌≤◌, ◌&&◌, true, false, not, List, [], ◌∷◌, ◌++◌, Option, Some, None}
 use Rattle.std.specs.List.{AllByRecursion}
 use Rattle.cs_history.specs.Lists.{EachPair, number_of}
@@ -9,14 +10,13 @@ use Rattle.cs_history.specs.declared.run.Run.{Run}
 use Rattle.cs_history.specs.declared.run.Going.{Going}
 use Rattle.cs_history.specs.declared.event.Event.TheVariants.{Begin, Got, Catch}
 
--- the jobs that a pass has still to start
 abbrev pub jobs_left : Option Pass → List ℕ
 jobs_left None = []
 jobs_left (Some o) = o.left
 
--- what each state that a legal history leaves keeps, runs that pass their declared time or not
+-- what holds of each state that a legal history leaves, whether or not its runs are in time
 pub record AreNamed (p : Plan) (s : State) : Type 0 where
-  -- a name occurs at most once among the runs that run, those that wait, and those that the pending
+  -- a name occurs at most once among the running runs, the waiting runs, and those that pending
   -- jobs would start
   pub once : (n : Run)
       → number_of (λ r. same_run n r.run) s.running + number_of
@@ -24,14 +24,15 @@ pub record AreNamed (p : Plan) (s : State) : Type 0 where
   -- a run is named by a minute that was reached
   pub runs_past : AllByRecursion (λ r. r.run.at ≤ s.now) s.running
   pub waits_past : AllByRecursion (λ w. w.at ≤ s.now) s.waiting
-  -- cron jobs are pending and wait, anacron jobs are left to a pass, and at most one of these runs
+  -- only cron jobs are pending or wait, only anacron jobs are left to a pass, and at most one of
+  -- these runs
   pub pending : AllByRecursion (λ j. is_cron p j ≡ true) s.pending
   pub waiting : AllByRecursion (λ w. is_cron p w.job ≡ true) s.waiting
   pub pass : AllByRecursion (λ j. (is_cron p j ≡ false) × (j < p.jobs)) (jobs_left s.pass)
   pub lone : number_of (λ r. not (is_cron p r.run.job)) s.running ≤ 1
 
--- so no two runs that run have one name, no two that wait have, and none that waits or is pending
--- has that of one that runs; of two that run one is of cron
+-- no two running runs have one name, no two waiting runs have, and no waiting or pending one has
+-- that of a running one; of two running runs one is a cron job's
 pub record AreApart (p : Plan) (s : State) : Type 0 where
   pub running : EachPair (λ r q. same_run r.run q.run ≡ false) s.running
   pub lone : EachPair

@@ -6,7 +6,7 @@ use Rattle.cs_history.specs.declared.mode.Mode.{Mode}
 use Rattle.cs_history.specs.declared.mode.Mode.TheVariants.{Plain, Skip, Try, Wait, Shared}
 
 pub record Plan : Type 0 where
-  -- the cron jobs are the numbers below `crons`, the anacron jobs those from there on below `jobs`
+  -- cron jobs are the numbers below `crons`, anacron jobs those from there on below `jobs`
   pub crons : ℕ
   pub jobs : ℕ
   -- a job's declared time: a run that starts in minute s has ended before minute s + limit begins
@@ -18,7 +18,7 @@ pub record Plan : Type 0 where
   pub due : ℕ → ℕ → Bool
   -- whether an anacron job with this stamp is due on a day (anacron(8))
   pub owed : ℕ → Option ℕ → ℕ → Bool
-  -- how many minutes an anacron job waits from the start of a pass on (anacrontab(5))
+  -- how many minutes after the start of a pass an anacron job may start (anacrontab(5))
   pub delay : ℕ → ℕ
   pub groups : ℕ
   pub exclusive : ℕ → Bool
@@ -29,7 +29,8 @@ pub record Plan : Type 0 where
   -- the minute of the day at which a pass begins; without one, passes begin only at a coming up
   pub pass_minute : Option ℕ
 
--- whether the mode takes the group's lock, waits for it, shares it (flock(1): -n, none, -s)
+-- whether a job of the mode takes its group's lock: Skip and Try are flock(1) -n, Wait is flock
+-- alone, Shared is -s
 abbrev pub takes : Mode → Bool
 takes Plain = false
 takes Skip = true
@@ -51,7 +52,7 @@ shares_in Try = false
 shares_in Wait = false
 shares_in Shared = true
 
--- whether a run that finds the lock held (flock(1) -n) breaks the plan by being skipped
+-- whether a run of the mode breaks the plan if it is skipped because the lock is held (flock(1) -n)
 abbrev pub is_skip : Mode → Bool
 is_skip Plain = false
 is_skip Skip = true
@@ -62,7 +63,6 @@ is_skip Shared = false
 abbrev pub is_cron : Plan → ℕ → Bool
 is_cron p j = nat_lt j p.crons
 
--- whether the job takes a lock, waits for it, shares it
 abbrev pub takes_lock : Plan → ℕ → Bool
 takes_lock p j = takes (p.mode j)
 
@@ -76,11 +76,10 @@ abbrev pub is_group : ℕ → Option ℕ → Bool
 is_group g None = false
 is_group g (Some k) = g == k
 
--- whether the job belongs to group g
 abbrev pub belongs : Plan → ℕ → ℕ → Bool
 belongs p g j = is_group g (p.group j)
 
--- whether the job takes the lock of group g
+-- the job takes the lock of group g
 abbrev pub locks : Plan → ℕ → ℕ → Bool
 locks p g j = takes_lock p j && belongs p g j
 
@@ -88,11 +87,9 @@ abbrev pub in_group_of : Plan → Option ℕ → ℕ → Bool
 in_group_of p None j = false
 in_group_of p (Some g) j = belongs p g j
 
--- whether both belong to one group
 abbrev pub same_group : Plan → ℕ → ℕ → Bool
 same_group p i j = in_group_of p (p.group i) j
 
--- whether both are of mode shared
 abbrev pub both_share : Plan → ℕ → ℕ → Bool
 both_share p i j = shares p i && shares p j
 
@@ -113,15 +110,13 @@ rivals p i j = exclusive_group p (p.group i) && same_group p i j
 abbrev pub due_at : Plan → ℕ → List ℕ
 due_at p t = filter (λ j. p.due j t) (below p.crons)
 
--- whether this minute is the declared pass minute of its day
 abbrev pub is_pass_minute : Plan → ℕ → Bool
 is_pass_minute p t = elim p.pass_minute [ None ↦ false | Some m ↦ t % 1440 == m ]
 
--- the delay of the one job is shorter
 abbrev pub is_sooner : Plan → ℕ → ℕ → Bool
 is_sooner p i j = nat_lt (p.delay i) (p.delay j)
 
--- of the jobs below n, by delay
+-- the anacron jobs below n, by delay
 abbrev pub placed_below : Plan → ℕ → List ℕ
 placed_below p zero = []
 placed_below p (suc n) = if nat_lt n p.crons then [] else placed (is_sooner p) n (placed_below p n)
@@ -144,7 +139,7 @@ pub record IsReached (t : ℕ) : Type 0 where
   pub first : first_start ≤ t
   pub last : t ≤ last_minute
 
--- what is read and joined is such a plan: numbers in range, names resolved, anacron without locks
+-- what tables and declarations give: numbers in range, names resolved, no locks for anacron jobs
 pub record IsPlan (p : Plan) : Type 0 where
   pub crons : p.crons ≤ p.jobs
   pub limits : (j : ℕ) → 0 < p.limit j

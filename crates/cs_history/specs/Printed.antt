@@ -1,9 +1,8 @@
--- The refusals as printed.
+-- The refusals as printed: number and name.
 use Rattle.std.specs.Prelude.{ℕ, List, codes}
 use Rattle.cs_history.specs.declared.refusal.Refusal.{Refusal}
 use Rattle.cs_history.specs.declared.refusal.Refusal.TheVariants.{NotUp, AlreadyUp, WrongMinute, NotSettled, NotDue, LockHeld, NotWaiting, NotRunning, NotCatchable, OutOfRange, HistoryFull, OutOfMemory}
 
--- number and name
 abbrev pub refusal_text : Refusal → List ℕ
 refusal_text NotUp = codes "1 NotUp"
 refusal_text AlreadyUp = codes "2 AlreadyUp"

@@ -23,7 +23,6 @@ pub record State : Type 0 where
   pub stamps : List (Option ℕ)
   pub pass : Option Pass
 
--- the state that a history leaves
 abbrev pub state_of : Plan → History → State
 state_of p h = record {
   now = now h;
@@ -35,7 +34,6 @@ state_of p h = record {
   pass = pass p h;
 }
 
--- the state after the event
 abbrev pub after : Plan → State → Event → State
 after p s (Minute t) = record s {
   now = t;
@@ -87,7 +85,7 @@ abbrev pub is_turn : Plan → ℕ → Option Pass → ℕ → Bool
 is_turn p t None j = false
 is_turn p t (Some o) j = is_first p t o.at o.left j
 
--- it is the job's turn, no anacron run is running, and the minute is in the catch-up hours
+-- it is the job's turn, no anacron job runs, and the minute is in the catch-up hours
 abbrev pub is_catchable : Plan → State → ℕ → Bool
 is_catchable p s j = is_turn p s.now s.pass j
     && not (list_any (λ r. not (is_cron p r.run.job)) s.running) && nat_le p.from (s.now % 1440)
@@ -96,7 +94,7 @@ is_catchable p s j = is_turn p s.now s.pass j
 abbrev pub unless : Bool → Refusal → Option Refusal → Option Refusal
 unless b f rest = if b then rest else Some f
 
--- the refusal that comes first, None where the event may come
+-- the refusal that comes first; None where the event may come
 abbrev pub refusal : Plan → State → Event → Option Refusal
 refusal p s (Minute t) = unless s.up NotUp
     (unless (is_civil t) OutOfRange
@@ -117,13 +115,11 @@ is_in_time p t r [] = true
 is_in_time p t r (x ∷ xs) =
     if same_run r x.run then nat_lt t (x.since + p.limit r.job) else is_in_time p t r xs
 
--- the reply to a Begin
 abbrev pub said : Answer → Run → Reply
 said Starts r = Started r
 said Waits r = Waiting
 said Skips r = Skipped
 
--- the reply to the event
 abbrev pub reply : Plan → State → Event → Reply
 reply p s (Minute t) = Clock
 reply p s (Begin j) = said (answer p s.running j) (run_of j s.now)
@@ -133,7 +129,7 @@ reply p s (End r) = Ended (is_in_time p s.now r s.running)
 reply p s Down = Went
 reply p s (Up t) = Came
 
--- what a refusal names: the first one, or OutOfMemory if there is none
+-- an error is the first refusal; where there is none, OutOfMemory
 abbrev pub IsFirst : Refusal → Option Refusal → Type 0
 IsFirst f None = f ≡ OutOfMemory
 IsFirst f (Some g) = f ≡ g

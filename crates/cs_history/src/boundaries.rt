@@ -1,4 +1,4 @@
-//! Laws that fix where the definitions begin and end, from both sides.
+//! Shows from both sides where the definitions begin and end.
 ghost use Rattle.std.specs.Prelude.{◌≡◌, ◌≢◌, ◌+◌, ◌-◌, ◌≤◌, ℕ, Bool, [], ◌∷◌, false};
 ghost use Rattle.cs_history.specs.Boundaries.{RunTogether, RunsAlone, at_one_lock, both_unlocked};
 ghost use Rattle.cs_history.specs.Boundaries.{in_a_queue, last_first, newcomer, over_at, unlocked};
@@ -11,8 +11,8 @@ ghost use Rattle.cs_history.specs.declared.event.Event.TheVariants.{Begin, Minut
 ghost use Rattle.cs_history.specs.declared.mode.Mode.TheVariants.{Shared, Skip, Try};
 ghost use Rattle.cs_history.specs.declared.run.Going.{Going};
 
-/// Lemma. A history may start at each minute from 1970-01-04 00:00 to 9999-12-31 23:59, up or down,
-/// and at no other.
+/// Lemma. A history may start at 1970-01-04 00:00 and at 9999-12-31 23:59, up or down, but not in
+/// the minute before the one or after the other.
 pub fn first_and_last_start()
     ensures first { (p : Plan) (up : Bool) → IsLegal p (start 4320 up []) }
     ensures before { (p : Plan) (up : Bool) → IsLegal p (start 4319 up []) → ⊥ }
@@ -20,8 +20,8 @@ pub fn first_and_last_start()
     ensures after { (p : Plan) (up : Bool) → IsLegal p (start 4223371680 up []) → ⊥ }
 {}
 
-/// Lemma. A run of at most `max` minutes is in time in the minute `max - 1` after that of its
-/// start, and late in the minute `max` after it: as the clock goes on, and as the daemon comes up.
+/// Lemma. A run of at most `max` minutes is in time `max - 1` minutes after its start, and late
+/// `max` minutes after it, whether the clock goes on to that minute or the daemon comes up in it.
 pub fn last_minute_of_a_run()
     ensures minute { (p : Plan) (h : History) (r : Going) → RunsAlone p h r
         → IsInTime p (h ▸ Minute (over_at p r - 1)) }
@@ -34,7 +34,7 @@ pub fn last_minute_of_a_run()
 {}
 
 /// Lemma. A run that shares the lock of an exclusive group is unsafe together with one of another
-/// mode of that group, and two that share it aren't.
+/// mode of that group; two that share it aren't.
 pub fn sharers_beside_others()
     ensures first { (p : Plan) (h : History) (r q : Going) → RunTogether p h r q
         → p.mode r.run.job ≡ Shared → p.mode q.run.job ≢ Shared → IsSafeNow p h → ⊥ }
@@ -45,8 +45,8 @@ pub fn sharers_beside_others()
         → p.weight r.run.job + p.weight q.run.job ≤ p.capacity → IsSafeNow p h }
 {}
 
-/// Lemma. Of the runs that find their lock held and are skipped, one of mode skip makes a history
-/// unsafe, and one of mode try doesn't.
+/// Lemma. A run that finds its lock held and is skipped makes a history unsafe in mode skip, and
+/// doesn't in mode try.
 pub fn only_skip_promises()
     ensures skip { (p : Plan) (h : History) (j : ℕ) → p.mode j ≡ Skip
         → is_free p (running p h) j ≡ false → IsSafe p (h ▸ Begin j) → ⊥ }
@@ -64,7 +64,7 @@ pub fn unsafe_history()
 {}
 
 /// Lemma. Waiting runs have no order (flock(1)): a newcomer may get the lock while another waits,
-/// and of two that wait the later one.
+/// and of two that wait the later one may.
 pub fn waiters_may_be_passed()
     ensures newcomer { IsLegal at_one_lock newcomer }
     ensures it_runs { running at_one_lock newcomer ≡ going 2 (at 60) (at 60) ∷ [] }

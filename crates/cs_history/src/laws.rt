@@ -8,8 +8,8 @@ ghost use Rattle.cs_history.specs.Step.{State, Steps, after, refusal, state_of};
 ghost use Rattle.cs_history.specs.declared.event.Event.{Event};
 ghost use Rattle.cs_history.specs.declared.reply.Reply.{Reply};
 
-/// Lemma. The state after a history follows from the state before its last event, and exactly the
-/// events that meet no refusal may come next.
+/// Lemma. The state before an event gives the state after it; and the events that may come next are
+/// those that aren't refused.
 #[tactic(auto, using(crate::proofs::Steps::stands, crate::proofs::Steps::legal))]
 pub fn states_follow_histories()
     ensures stands { (p : Plan) (h : History) (e : Event)
@@ -41,8 +41,8 @@ pub fn names_differ()
     // so no two of its runs have one name
     ensures apart { (p : Plan) (s : State) → AreNamed p s → AreApart p s }
 
-    // if no anacron job is due on the day of its stamp, no two runs that it has started have one
-    // name, ended or not
+    // if no anacron job is due on the day of its stamp, no two runs that the history has started
+    // have one name, ended or not
     ensures started { (p : Plan) (h : History) → ((j day : ℕ) → p.owed j (Some day) day ≡ false)
         → IsLegal p h → EachPair (λ r q. same_run r.run q.run ≡ false) (started p h) }
 {}

@@ -1,4 +1,4 @@
-//! Histories: the events of the jobs of a crontab and an anacrontab, and the state after them.
+//! Defines histories: the events of cron and anacron jobs, the state after them, and what is safe.
 #![tactic(auto)]
 
 mod boundaries;

@@ -1,7 +1,7 @@
 ghost use Rattle.std.specs.Prelude.{◌≡◌};
 ghost use Rattle.cs_history.specs.Plan.{is_skip, shares_in, takes, waits_in};
 
-/// How a job treats the lock of its group, like `flock(1)` before its command.
+/// How a job treats the lock of its group, as `flock(1)` before its command does.
 #[derive(Clone, Copy, Debug, PartialEq, Eq)]
 pub enum Mode {
     /// The job takes no lock.
@@ -17,7 +17,7 @@ pub enum Mode {
 }
 
 impl Mode {
-    /// Checks whether a run takes the lock.
+    /// Whether a run takes the lock.
     pub fn takes_lock(self) -> bool
         ensures { result ≡ takes self }
     {
@@ -27,7 +27,7 @@ impl Mode {
         }
     }
 
-    /// Checks whether a run waits for the lock if it is held.
+    /// Whether a run waits for a lock that is held.
     pub fn waits(self) -> bool
         ensures { result ≡ waits_in self }
     {
@@ -37,7 +37,7 @@ impl Mode {
         }
     }
 
-    /// Checks whether a run shares the lock.
+    /// Whether a run shares the lock.
     pub fn shares(self) -> bool
         ensures { result ≡ shares_in self }
     {
@@ -47,7 +47,7 @@ impl Mode {
         }
     }
 
-    /// Checks whether a run that finds the lock held breaks the plan by being skipped.
+    /// Whether a run that finds the lock held breaks the plan by being skipped.
     pub fn is_skip(self) -> bool
         ensures { result ≡ is_skip self }
     {

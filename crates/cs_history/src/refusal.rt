@@ -5,7 +5,7 @@ ghost use Rattle.cs_history.specs.declared.refusal.Refusal.TheVariants.{OutOfMem
 use std::alloc::{AllocError, AllocFailed};
 use thiserror::Error;
 
-/// Why an event was refused, printed as number and name, `4 NotSettled`, or as `out of memory`.
+/// Why an event was refused, printed as number and name: `4 NotSettled`.
 #[derive(Clone, Copy, Debug, PartialEq, Eq, Error)]
 #[error("{}", self.text())]
 pub enum Refusal {

@@ -7,7 +7,7 @@ use std::marker::Model;
 /// The most stamps of a start, and jobs of an anacrontab.
 pub const MAX_STAMPS: usize = 64;
 
-/// The start of a history: up or down at this minute, nothing running, and these anacron stamps.
+/// The start of a history: the minute, up or down, and the anacron stamps. Nothing runs.
 #[derive(Drop)]
 pub struct Start {
     minute: Minute,
@@ -24,9 +24,9 @@ impl Model for Start {
 }
 
 impl Start {
-    /// Returns the start at this minute. `stamps` are by anacron job, in order of line, `None` for
-    /// a job without a stamp; jobs past its end have none, and stamps past the last job are
-    /// ignored.
+    /// Returns the start at this minute. `stamps` are those of the anacron jobs in order of line,
+    /// `None` for a job that has none. Jobs past the end have none, and stamps past the last job
+    /// are ignored.
     pub fn new(now: Minute, up: bool, stamps: ArrayVec<Option<Day>, 64>) -> Start
         ensures { result ≡ record { now = now; up = up; stamps = stamps.items } }
     {
@@ -51,7 +51,7 @@ impl Start {
         self.minute
     }
 
-    /// Checks whether the daemon is up.
+    /// Whether the daemon is up.
     pub fn is_up(&self) -> bool
         ensures { result ≡ self.now.up }
     {
@@ -67,7 +67,7 @@ impl Start {
     }
 }
 
-/// Copies stamps: at most 64, as more are those of no start.
+/// Copies stamps, of which a start has at most 64; of more it copies none.
 pub fn copy_stamps(stamps: &[Option<Day>]) -> ArrayVec<Option<Day>, 64>
     ensures few { length stamps.now ≤ MAX_STAMPS → result.items ≡ stamps.now }
     ensures many { MAX_STAMPS < length stamps.now → result.items ≡ [] }

@@ -43,7 +43,7 @@ pub fn clock_and_outages()
         ≡ Said Came ∷ Said Clock ∷ Said (Started (run_of 0 (at 60))) ∷ Said Went ∷ Said (Ended true)
         ∷ Refused NotRunning ∷ [] }
 
-    // while down, and on coming up in a minute at which a job is due
+    // while down most events are refused, and so is a job due in the minute of coming up
     ensures down_refuses { answers (hourly (0 ∷ []) [] []) (start (at 59) false [])
         (Minute (at 60) ∷ Down ∷ Begin 0 ∷ Got 0 (at 59) ∷ Catch 0 ∷ Up (at 58) ∷ Up 1439
         ∷ Up (at 60) ∷ Up (at 60) ∷ Begin 0 ∷ Minute (at 62) ∷ [])
@@ -58,7 +58,7 @@ pub fn clock_and_outages()
         ≡ Refused OutOfRange ∷ Refused WrongMinute ∷ Refused NotWaiting ∷ Said Clock ∷ Said Went
         ∷ Said Came ∷ Refused NotDue ∷ Said Clock ∷ [] }
 
-    // a wrong minute is refused before what is not settled
+    // a wrong minute is refused before an unsettled one
     ensures wrong_minute_first { answers (hourly (0 ∷ []) [] []) (start (at 59) true [])
         (Minute (at 60) ∷ Minute (at 62) ∷ Minute (at 60) ∷ Minute (at 61) ∷ [])
         ≡ Said Clock ∷ Refused WrongMinute ∷ Refused WrongMinute ∷ Refused NotSettled ∷ [] }
@@ -92,7 +92,7 @@ pub fn locks_and_waiting()
         (start (at 59) true []) (Minute (at 60) ∷ Begin 1 ∷ Begin 0 ∷ Got 0 (at 60) ∷ [])
         ≡ Said Clock ∷ Said (Started (run_of 1 (at 60))) ∷ Said Skipped ∷ Refused NotWaiting ∷ [] }
 
-    // a newcomer passes one who waits longer, and going down ends the waiting
+    // a later waiter may get the lock first, and going down ends the waiting
     ensures passes_by { answers (hourly (0 ∷ 0 ∷ 0 ∷ []) (Wait ∷ Wait ∷ Wait ∷ [])
         (20 ∷ 20 ∷ 20 ∷ [])) (start (at 59) true [])
         (Minute (at 60) ∷ Begin 0 ∷ Begin 1 ∷ Begin 2 ∷ End (run_of 0 (at 60)) ∷ Got 2 (at 60)
@@ -101,7 +101,7 @@ pub fn locks_and_waiting()
         ∷ Said (Ended true) ∷ Said (Started (run_of 2 (at 60))) ∷ Refused LockHeld ∷ Said Went
         ∷ Said Came ∷ Said (Ended true) ∷ Refused NotWaiting ∷ [] }
 
-    // a job that begins while the lock is free passes one who waits for it, who waits on
+    // a job that begins while the lock is free passes one that waits for it, which waits on
     ensures newcomer { answers (hourly (0 ∷ 0 ∷ 0 ∷ []) (Wait ∷ Wait ∷ Skip ∷ [])
         (20 ∷ 20 ∷ 20 ∷ [])) (start (at 59) true [])
         (Minute (at 60) ∷ Begin 0 ∷ Begin 1 ∷ End (run_of 0 (at 60)) ∷ Begin 2 ∷ Got 1 (at 60)
@@ -118,7 +118,7 @@ pub fn locks_and_waiting()
         ∷ Said Waiting ∷ Said (Ended true) ∷ Refused LockHeld ∷ Said (Ended true)
         ∷ Said (Started (run_of 2 (at 60))) ∷ [] }
 
-    // two that share wait for one that does not
+    // two that share wait for one that doesn't
     ensures shared_waits { answers (hourly (0 ∷ 0 ∷ 0 ∷ []) (Shared ∷ Shared ∷ Wait ∷ [])
         (20 ∷ 30 ∷ 10 ∷ [])) (start (at 59) true [])
         (Minute (at 60) ∷ Begin 2 ∷ Begin 0 ∷ Begin 1 ∷ End (run_of 2 (at 60)) ∷ Got 1 (at 60)
@@ -154,7 +154,7 @@ pub fn passes_and_stamps()
           pass = None;
         } }
 
-    // a job with the day's stamp is left out
+    // a job with the day's stamp isn't in the pass
     ensures stamps_of_the_start { state_of (catching (0 ∷ 0 ∷ []) 0 1440 None)
         (story (catching (0 ∷ 0 ∷ []) 0 1440 None) (start (at 9) false (Some 19723 ∷ []))
         (Up (at 9) ∷ []))
@@ -206,7 +206,7 @@ pub fn passes_and_stamps()
         (Up (at 9) ∷ Catch 0 ∷ Minute (at 10) ∷ Catch 0 ∷ [])
         ≡ Said Came ∷ Refused NotCatchable ∷ Said Clock ∷ Said (Started (run_of 0 (at 10))) ∷ [] }
 
-    // a job that is running is left out
+    // a job that is running isn't in the pass
     ensures running_left_out { state_of (catching (0 ∷ 0 ∷ []) 0 1440 None)
         (story (catching (0 ∷ 0 ∷ []) 0 1440 None) (start (at 9) false [])
         (Up (at 9) ∷ Catch 0 ∷ Down ∷ Up (at 1440) ∷ []))
@@ -225,7 +225,7 @@ pub fn passes_and_stamps()
 /// certificate gives. Day 2 is 1970-01-03.
 pub fn windows_and_calm()
 
-    // 23:30 for 30 minutes ends at midnight, for 60 it meets what begins there
+    // 23:30 for 30 minutes ends at midnight; for 60 it meets what begins there
     ensures ends { (c : ℕ → ℕ)
         → Holds (nights 30) c 2879 (run_of 0 2850)
         × (Holds (nights 30) c 2880 (run_of 0 2850) → ⊥) }
@@ -249,7 +249,7 @@ pub fn windows_and_calm()
     // a skip job meets the window of one that waits
     ensures skip { IsCalm skipping (λ _. 60) (2880 + 49) → ⊥ }
 
-    // by mode: jobs that hold a lock alone weigh once
+    // by mode: of jobs that hold their lock alone, only the heaviest counts
     ensures loads { (load (heavy Plain) (run_of 0 2880 ∷ run_of 1 2880 ∷ []) ≡ 4)
         × (load (heavy Wait) (run_of 0 2880 ∷ run_of 1 2880 ∷ []) ≡ 2)
         × (load (heavy Skip) (run_of 0 2880 ∷ run_of 1 2880 ∷ []) ≡ 2)
@@ -266,7 +266,7 @@ pub fn safe_and_unsafe()
     // a day later it has passed its declared time
     ensures late { IsInTime spring (over_outage 1440) → ⊥ }
 
-    // two of no exclusive group that weigh 2 each, where 3 is the capacity
+    // two of no exclusive group that weigh 2 each, with a capacity of 3
     ensures overload { IsSafe (plan_of 2 [] (at_of (0 ∷ 0 ∷ [])) 3 false (λ _. 10) 2)
         both_at_midnight → ⊥ }
 
@@ -277,11 +277,11 @@ pub fn safe_and_unsafe()
     ensures shared { IsSafe sharing all_begin }
 {}
 
-/// Lemma. Worked examples: a job finds its lock held and is skipped, which is safe in mode try, and
+/// Lemma. Worked examples: a job that finds its lock held is skipped, which is safe in mode try and
 /// isn't in mode skip.
 pub fn skipped_in_both_modes()
 
-    // both are told the same, and the clock goes on
+    // both get the same replies, and the clock goes on
     ensures tried { answers (at_one Try) (start (at 59) true [])
         (Minute (at 60) ∷ Begin 1 ∷ Begin 0 ∷ Got 0 (at 60) ∷ Minute (at 61) ∷ [])
         ≡ Said Clock ∷ Said (Started (run_of 1 (at 60))) ∷ Said Skipped ∷ Refused NotWaiting

@@ -4,7 +4,7 @@ use Rattle.std.specs.Prelude.{Bool, IfSome, length, option_map, replicate}
 use Rattle.cs_io.specs.declared.inputs.TheConstants.{MOST_READS}
 
 -- the n bytes at the front of buf are the next ones of this path: none only at its end, after which
--- the path begins anew; what is left of every other path stays
+-- the path begins again; what is left of every other path stays
 pub record IsNextOf (path : List ℕ) (whole left-old left-new : List ℕ → Option (List ℕ)) (n : ℕ)
     (buf : List ℕ) : Type 0 where
   pub bytes : IfSome (left-old path)
@@ -29,7 +29,7 @@ IsFresh whole left = (path : List ℕ) → IfSome (whole path) (λ text. left pa
 abbrev pub Reads : Type 0
 Reads = Option (List (List ℕ))
 
--- so many reads more, each of this path
+-- this many reads more, each of this path
 abbrev pub IsReadOn : List ℕ → ℕ → Reads → Reads → Type 0
 IsReadOn path n old new = new ≡ option_map (λ paths. replicate n path ++ paths) old
 

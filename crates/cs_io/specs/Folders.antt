@@ -7,8 +7,8 @@ use Rattle.std.specs.List.Sorted.{IsSorted}
 use Rattle.std.specs.Str.{bytes_eq}
 use Rattle.cs_io.specs.declared.folders.FileKind.{FileKind}
 
--- what is known of folders: what each path leads to, and the names in each folder, `Some None` where
--- nothing is there
+-- what is known of folders: what each path leads to, and the names in each folder, `Some None`
+-- where nothing is there
 pub record Tree : Type 0 where
   pub kind : List ℕ → Option (Option FileKind)
   pub names : List ℕ → Option (Option (List (List ℕ)))

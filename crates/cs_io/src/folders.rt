@@ -1,4 +1,3 @@
-//! The folders that the program looks into.
 ghost use Rattle.std.specs.Prelude.{◌≡◌, ◌<◌, ◌≤◌, None, true, IfOk, IfErr, IfSome};
 ghost use Rattle.std.specs.Prelude.{IsPermutation, OnOk, length, map};
 ghost use Rattle.cs_io.specs.Folders.{IsInByteOrder, Tree, is_listed, names_in, unknown};
@@ -10,13 +9,13 @@ use cs_civil::{Bytes, Sequence};
 use std::alloc::{AllocError, Global};
 use std::io::Read;
 
-/// What a path leads to, behind its links.
+/// What a path leads to, after its links.
 #[derive(Clone, Copy, PartialEq, Eq)]
 pub enum FileKind {
     /// A regular file that no one may execute.
     Regular,
-    /// A regular file that no one may execute, of 0 bytes as the machine says: also one of its kernel's,
-    /// a read of which may wait for ever.
+    /// A regular file that no one may execute, of 0 bytes as the machine says: also one of its
+    /// kernel's, a read of which may wait for ever.
     Empty,
     /// A regular file that someone may execute: one of the bits 0o111 of its mode is set.
     Program,
@@ -34,8 +33,8 @@ pub trait Folders: Inputs {
     /// What is known of them, which stays while the program runs.
     ghost tree: { Tree } = { unknown };
 
-    /// From now on the links of each path that begins with this one are looked up below it: an absolute
-    /// one begins there, and none leads above it. Nothing changes for an empty path.
+    /// From now on the links of each path that begins with this one are looked up below it: an
+    /// absolute one begins there, and none leads above it. Nothing changes for an empty path.
     fn look_below(&mut self, alloc: Global, root: &str) -> Result<(), AllocError>
         ensures files { (Self.whole self.new ≡ Self.whole self.old)
             × (Self.left self.new ≡ Self.left self.old)
@@ -53,8 +52,8 @@ pub trait Folders: Inputs {
         ensures fails { IfErr result (λ e. IsCannotRead e
             → Self.failed self.new path.now ≡ true) };
 
-    /// Whether others than its owner may write to what a path leads to, as the machine says: one of the
-    /// bits 0o022 of its mode is set.
+    /// Whether others than its owner may write to what a path leads to, as the machine says: one of
+    /// the bits 0o022 of its mode is set.
     fn is_open_to_others(&self, path: &str) -> bool;
 
     /// The names in a folder in the order of their bytes, `None` if there is nothing at its path.
@@ -71,7 +70,6 @@ pub trait Folders: Inputs {
             → Self.failed self.new path.now ≡ true) };
 }
 
-/// Whether this is a name of something in a folder, and not of the folder or of the one above it.
 fn is_listed(name: &[u8]) -> bool
     ensures { result ≡ is_listed name.now }
 {
@@ -84,7 +82,7 @@ const MOST_BYTES: usize = 16_777_728;
 /// The most reads of a folder's list, each of one name, and the one at its end.
 const MOST_READS: usize = 65_539;
 
-/// Reads a folder's list, as the machine gives it: a NUL ends each name.
+/// A NUL ends each name.
 pub(crate) fn read_list<D: Read>(alloc: Global, folder: &mut D) -> Result<Vec<u8>, ReadFault>
     ensures { IfOk result (λ list. IfSome (D.remaining folder.old) (λ all. list.items ≡ all)) }
 {
@@ -103,7 +101,6 @@ pub(crate) fn read_list<D: Read>(alloc: Global, folder: &mut D) -> Result<Vec<u8
     Err(ReadFault::CannotRead(Reason::TooManyNames))
 }
 
-/// The names in a folder's list.
 fn listed<'a>(alloc: Global, list: &'a [u8]) -> Result<Vec<&'a [u8]>, AllocError>
     ensures { IfOk result (λ names. map (λ name. name.now) names.items ≡ names_in list.now) }
 {
@@ -112,7 +109,6 @@ fn listed<'a>(alloc: Global, list: &'a [u8]) -> Result<Vec<&'a [u8]>, AllocError
         .collect(alloc)
 }
 
-/// Copies of the names.
 fn copied(alloc: Global, names: &[&[u8]]) -> Result<Sequence<Bytes>, AllocError>
     ensures { IfOk result (λ copies. copies ≡ map (λ name. name.now) names.now) }
 {
@@ -123,7 +119,6 @@ fn copied(alloc: Global, names: &[&[u8]]) -> Result<Sequence<Bytes>, AllocError>
     Ok(copies)
 }
 
-/// The names in a folder's list, in the order of their bytes.
 pub(crate) fn names_in_order(alloc: Global, list: &[u8]) -> Result<Sequence<Bytes>, ReadFault>
     ensures same { IfOk result (IsPermutation (names_in list.now)) }
     ensures few { IfOk result (λ names. length names ≤ MOST_NAMES) }

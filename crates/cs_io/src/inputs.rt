@@ -1,4 +1,3 @@
-//! What the program reads.
 ghost use Rattle.std.specs.Prelude.{◌≡◌, ◌≤◌, ◌<◌, ◌+◌, ◌^◌, ◌⊎◌, ℕ, List, Option, None, Bool};
 ghost use Rattle.std.specs.Prelude.{true, IfOk, IfErr, IfSome, OnErr, OnOk, length};
 ghost use Rattle.cs_io.specs.Files.{Gives, IsFresh, IsNextOf, IsReadAlone, IsReadOn, IsReadOut};
@@ -77,9 +76,8 @@ impl From<AllocError> for ReadFault {
 /// The most reads of a path.
 pub const MOST_READS: u32 = 16_777_217;
 
-/// Reads all of a path, or more than `limit` bytes of it if it is longer: an input without end is
-/// left as soon as it is too long. Each read gives at least one byte, so there are at most `limit +
-/// 1`.
+/// Reads all of a path, or more than `limit` bytes of it if it is longer: so an input without end
+/// is left as soon as it is too long.
 pub fn read_up_to<I: Inputs>(
     alloc: Global,
     inputs: &mut I,
@@ -112,7 +110,7 @@ pub fn read_up_to<I: Inputs>(
     Ok(bytes)
 }
 
-/// Reads all of a path. One without end after [`MOST_READS`] reads can't be read.
+/// Reads all of a path. An error too if it has no end after [`MOST_READS`] reads.
 pub fn read_whole<I: Inputs>(
     alloc: Global,
     inputs: &mut I,

@@ -1,4 +1,4 @@
-//! What the program reads and writes.
+//! Reads files and folders by their paths, and writes to standard output and standard error.
 #![tactic(auto)]
 
 mod folders;

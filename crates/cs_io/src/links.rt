@@ -21,11 +21,11 @@ pub(crate) struct Root {
 #[derive(Drop)]
 struct Way {
     alloc: Global,
-    /// Where it has come to, behind all links: nothing at the root, else names with a slash before each.
+    /// Where it has come to, after all links: nothing at the root, else names with a slash before
+    /// each.
     done: String,
     /// The names that are left, the next one last.
     left: Vec<String>,
-    /// How many links it has followed.
     links: u32,
 }
 
@@ -38,7 +38,6 @@ impl Way {
         Ok(())
     }
 
-    /// Follows a link with this target.
     fn follow(&mut self, target: &str) -> io::Result<()> {
         if self.links >= MOST_LINKS {
             return Err(io::Error::from(ErrorKind::FilesystemLoop));
@@ -50,7 +49,7 @@ impl Way {
         Ok(self.push_path(target)?)
     }
 
-    /// Goes to a name in the folder that it has come to. Above the root is the root.
+    /// Above the root is the root.
     fn go_to<R: Files>(&mut self, rt: &R, front: &str, name: &str) -> io::Result<()> {
         if name.is_empty() || name == "." {
             return Ok(());
@@ -72,14 +71,14 @@ impl Way {
 }
 
 impl Root {
-    /// The root folder at this path.
     pub(crate) fn new(alloc: Global, front: &str) -> Result<Root, AllocError> {
         let front = String::from_str(alloc, front)?;
         Ok(Root { alloc, front })
     }
 
-    /// Where the machine has the file of a path below the root folder, behind all links: an absolute
-    /// one begins at the root, and none leads above it.
+    /// Returns where the machine has the file of a path below the root folder, after all links: an
+    /// absolute one begins at the root, and none leads above it. None for a path that isn't below
+    /// the root folder.
     pub(crate) fn behind_links<R: Files>(&self, rt: &R, path: &str) -> io::Result<Option<String>> {
         let (alloc, front) = (self.alloc, self.front.as_str());
         let rest = path.strip_prefix(front).unwrap_or("");

@@ -1,4 +1,3 @@
-//! The machine's files and its standard input.
 ghost use Rattle.std.specs.Prelude.{◌≡◌, ◌==◌, ◌≤◌, IfOk, IfSome, bit_and, false, if◌then◌else◌, length};
 ghost use Rattle.std.specs.Fs.{metadata_len, metadata_mode};
 ghost use Rattle.cs_io.specs.Folders.{IsInByteOrder};
@@ -26,7 +25,7 @@ pub struct Machine<'a, R: Files + Input> {
 }
 
 impl<'a, R: Files + Input> Machine<'a, R> {
-    /// Returns the machine's inputs, none open and without failures.
+    /// Returns the machine's inputs, without failures.
     pub fn new(rt: &'a R) -> Machine<'a, R>
         ensures { result.has_failed ≡ false }
     {
@@ -38,7 +37,6 @@ impl<'a, R: Files + Input> Machine<'a, R> {
         }
     }
 
-    /// Where the file of a path below a root folder is.
     fn behind_links(&self, path: &str) -> io::Result<Option<String>> {
         match &self.root {
             Some(root) => root.behind_links(self.rt, path),
@@ -109,7 +107,6 @@ impl<'a, R: Files + Input> Machine<'a, R> {
     }
 }
 
-/// The text, or the other one where there is none.
 fn text_or<'t>(text: &'t Option<String>, other: &'t str) -> &'t str {
     match text {
         Some(text) => text.as_str(),
@@ -117,7 +114,6 @@ fn text_or<'t>(text: &'t Option<String>, other: &'t str) -> &'t str {
     }
 }
 
-/// The kind of a regular file.
 fn file_kind(found: &Metadata) -> FileKind
     ensures { result ≡ (if bit_and (metadata_mode found.now) 0o111 == 0
         then (if metadata_len found.now == 0 then Empty else Regular) else Program) }
@@ -132,7 +128,6 @@ fn file_kind(found: &Metadata) -> FileKind
     }
 }
 
-/// Why something can't be looked at.
 fn fault_of(error: &io::Error) -> ReadFault {
     match error.kind() {
         ErrorKind::OutOfMemory => ReadFault::OutOfMemory,
@@ -140,7 +135,7 @@ fn fault_of(error: &io::Error) -> ReadFault {
     }
 }
 
-/// The path of a folder with a slash at its end, behind which a link to a folder is followed.
+/// A slash at the end, so that a link to a folder is followed.
 fn with_slash(alloc: Global, path: &str) -> Result<String, AllocError> {
     let mut folder = String::from_str(alloc, path)?;
     if !path.is_empty() && !path.ends_with('/') {

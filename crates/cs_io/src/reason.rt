@@ -1,4 +1,3 @@
-//! Why a path can't be read.
 ghost use Rattle.std.specs.Prelude.{◌≡◌};
 ghost use Rattle.cs_io.specs.Reasons.{reason_text};
 
@@ -14,7 +13,7 @@ pub enum Reason {
     NotAllowed,
     /// It is a folder.
     Folder,
-    /// It is no folder.
+    /// It isn't a folder.
     NoFolder,
     /// It is a folder with too many names.
     TooManyNames,

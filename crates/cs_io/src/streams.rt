@@ -1,4 +1,3 @@
-//! The standard streams of this process.
 ghost use Rattle.std.specs.Prelude.{◌≤ℤ◌, pos, IfSome};
 ghost use Rattle.std.specs.Fd.{file_raw_fd};
 
@@ -9,8 +8,8 @@ use std::rt::Files;
 /// The greatest descriptor of a standard stream: that of standard error.
 const LAST_STREAM: i32 = 2;
 
-/// The null device in place of each standard stream with which this process was started closed. As
-/// long as it lives, no other file gets the number of a standard stream.
+/// The null device in place of each standard stream with which this process was started closed.
+/// While it lives, no other file gets the number of a standard stream.
 #[derive(Drop)]
 pub struct HeldStreams {
     first: Option<File>,
@@ -18,8 +17,8 @@ pub struct HeldStreams {
     third: Option<File>,
 }
 
-/// Opens the null device in place of each standard stream that is closed. To be called before
-/// anything else is opened.
+/// Opens the null device in place of each standard stream that is closed. Call it before anything
+/// else is opened.
 pub fn hold_streams<R: Files<File = File>>(rt: &R) -> HeldStreams {
     HeldStreams {
         first: held(rt),

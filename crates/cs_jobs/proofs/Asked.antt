@@ -14,11 +14,9 @@ use Rattle.cs_device.specs.declared.runner.Outcome.{Outcome}
 use Rattle.cs_jobs.specs.Commands.{AreSet, IsForJob, IsOfCommand, IsOfJob, RunsJob}
 use Rattle.cs_jobs.specs.Names.{run_name}
 
--- an item that is lent stands at its index
+-- a borrowed item stands at its index
 pub found : {X : Type 0} (xs : List X) (i : ℕ) (x : Bor X) → IsItemAt xs i (Some x) → slice_get xs i ≡ Some x.now
 found xs i x at = slice_get_read xs (length xs) i x.now refl at.3.0 at.1
-
--- ---- what is asked
 
 pub of_command : (table : Crontab) (line : CommandLine) (name : List ℕ) (number : ℕ) (text command lent_command : List ℕ) (input : Option (List ℕ)) (lent : Option (Bor (List ℕ))) (env lent_env : List Variable)
     → number ≡ line.number → text ≡ line.command → AreParts text (command, input)
@@ -46,8 +44,6 @@ of_job table line name number text env lent_env n t names values e =
           subst (λ (x : List Variable). AreSet (above line.number table.settings) x) (sym e)
           (subst (λ (m : ℕ). AreSet (above m table.settings) env) n (record { names = names; values = values }));
     }
-
--- ---- which job it is for
 
 module _ {W E : Type 0} (runs : W → Asked → Outcome → W → Type 0) (d : Declared) where
   pub cron_runs : (run : Run) (name : List ℕ) (job : ℕ) (table : Crontab) (lines : List CommandLine) (line : Bor CommandLine) (old new : W) (r : Result Outcome E)

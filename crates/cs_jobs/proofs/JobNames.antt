@@ -5,7 +5,7 @@ use Rattle.cs_plan.specs.JobNames.{command_name, identifier_of}
 use Rattle.cs_plan.specs.Plan.{Declared, crons, no_command, no_line}
 use Rattle.cs_jobs.specs.Names.{at_front, due_front, identifier_name, job_front, job_name, line_name}
 
--- what two lists make, one behind the other
+-- what two lists give, one after the other
 module _ {X Y A : Type 0} (f : X → A) (g : Y → A) (xs : List X) (ys : List Y) (i : ℕ) (a : A) where
   in_first : (x : X) → i < length xs → get_or (map f xs ++ map g ys) i a ≡ f (get_or xs i x)
   in_first x lt =

@@ -17,7 +17,7 @@ pub record AreSet (settings : List SettingLine) (variables : List Variable) : Ty
   pub names : map (λ v. v.0) variables ≡ first_places (names_of settings)
   pub values : All (IsLast settings) variables
 
--- a cron job: the command and the input that its line denotes, and the settings above it
+-- a cron job: the command and the input of its line, and the settings above it
 pub record IsOfCommand (table : Crontab) (line : CommandLine) (asked : Asked) : Type 0 where
   pub parts : AreParts line.command (asked.command, asked.input)
   pub variables : AreSet (above line.number table.settings) asked.variables
@@ -28,7 +28,7 @@ pub record IsOfJob (table : Anacrontab) (line : JobLine) (asked : Asked) : Type 
   pub input : asked.input ≡ None
   pub variables : AreSet (above line.number table.settings) asked.variables
 
--- what is asked for a job of the plan, by its number: those of the crontab are first
+-- what is asked for a job of the plan; the crontab's jobs come first
 abbrev pub IsForJob : Declared → ℕ → Asked → Type 0
 IsForJob d job asked =
     ((line : CommandLine) × (slice_get d.crontab.lines job ≡ Some line) × IsOfCommand d.crontab line asked)
@@ -39,13 +39,12 @@ IsForJob d job asked =
 abbrev pub IsFor : Declared → Run → Asked → Type 0
 IsFor d run asked = (asked.name ≡ run_name d run) × IsForJob d run.job asked
 
--- the number is no job's
 abbrev pub IsPast : Declared → ℕ → Type 0
 IsPast d job = crons d + length d.anacrontab.lines ≤ job
 
 module _ {W : Type 0} (runs : W → Asked → Outcome → W → Type 0) (d : Declared) where
-  -- The runner runs the command of the run's job, under the run's name, once, and nothing else. If
-  -- there is no such job, it runs nothing, and the run isn't started.
+  -- the runner runs the command of the run's job, under the run's name, once, and nothing else; if
+  -- there is no such job, it runs nothing, and the run isn't started
   abbrev pub RunsJob : Run → W → Outcome → W → Type 0
   RunsJob run old outcome new =
       ((asked : Asked) × IsFor d run asked × runs old asked outcome new)

@@ -19,7 +19,6 @@ numbered_end d run word number =
 unfoldable pub bare_end : Declared → Run → List ℕ
 bare_end d run = codes "ended " ++ (run_name d run ++ codes " status none")
 
--- how a run has ended
 abbrev pub end_text : Declared → Run → Outcome → List ℕ
 end_text d run (Exited status) = numbered_end d run (codes " status ") status
 end_text d run (Killed signal) = numbered_end d run (codes " signal ") signal
@@ -30,11 +29,10 @@ end_text d run NotStarted = codes "not started " ++ run_name d run
 unfoldable pub outage_text : ℕ → ℕ → List ℕ
 outage_text from to = codes "outage " ++ (minute_text from ++ (codes " to " ++ minute_text to))
 
--- the identifier on a line of the anacrontab, by its place, nothing where there is none
+-- the identifier of an anacron job by its place; nothing if there is none
 abbrev pub identifier_at : Declared → ℕ → List ℕ
 identifier_at d place = (slice_index_or d.anacrontab.lines place no_line).identifier
 
--- what a line tells
 abbrev pub told_text : Declared → LogLine → List ℕ
 told_text d (Started run) = codes "started " ++ run_name d run
 told_text d (Waiting run) = codes "waiting " ++ run_name d run
@@ -45,6 +43,5 @@ told_text d (Outage from to) = outage_text from to
 told_text d (StampNotRead place) = codes "stamp not read " ++ identifier_at d place
 told_text d (StampNotWritten place) = codes "stamp not written " ++ identifier_at d place
 
--- the same with its newline
 unfoldable pub line_text : Declared → LogLine → List ℕ
 line_text d line = told_text d line ++ 10 ∷ []

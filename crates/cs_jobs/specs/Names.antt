@@ -22,21 +22,21 @@ due_front line = line_name line ++ codes " due "
 abbrev pub at_front : JobLine → List ℕ
 at_front line = identifier_name line ++ codes " at "
 
--- of all jobs by their numbers: the crontab's lines come first, then the anacrontab's
+-- jobs by number: the crontab's lines come first, then the anacrontab's
 abbrev pub job_names : Declared → List (List ℕ)
 job_names d = map line_name d.crontab.lines ++ map identifier_name d.anacrontab.lines
 
 abbrev pub job_fronts : Declared → List (List ℕ)
 job_fronts d = map due_front d.crontab.lines ++ map at_front d.anacrontab.lines
 
--- of one job, nothing for no job
+-- nothing for no job
 unfoldable pub job_name : Declared → ℕ → List ℕ
 job_name d job = slice_index_or (job_names d) job []
 
 unfoldable pub job_front : Declared → ℕ → List ℕ
 job_front d job = slice_index_or (job_fronts d) job []
 
--- the text of a minute, nothing where it isn't from 1970-01-02 to 9999-12-31
+-- nothing if the minute isn't from 1970-01-02 to 9999-12-31
 abbrev pub minute_if_civil : ℕ → List ℕ
 minute_if_civil at = if is_civil at then minute_text at else []
 

@@ -1,4 +1,4 @@
-//! The command of a run's job.
+//! Runs the command of a run's job.
 ghost use Rattle.std.specs.Prelude.{◌≡◌, IfOk, OnErr, option_map};
 ghost use Rattle.cs_jobs.specs.Commands.{IsOfCommand, IsOfJob, RunsJob};
 ghost use Rattle.cs_device.specs.Asked.{Asked};
@@ -12,8 +12,7 @@ use cs_history::Run;
 use cs_plan::Plan;
 use std::alloc::{AllocError, Global};
 
-/// Runs the command of a run's job for it, with its input and its settings. The only error is out of
-/// memory.
+/// Runs the command of a run's job, with its input and its settings.
 pub fn run_command<W: Runner>(
     alloc: Global,
     plan: &Plan,
@@ -38,7 +37,6 @@ pub fn run_command<W: Runner>(
     run_job_line(alloc, anacrontab, runner, name.as_slice(), line)
 }
 
-/// Runs the command of a crontab's line, for the run of this name.
 fn run_line<W: Runner>(
     alloc: Global,
     table: &Crontab,
@@ -55,7 +53,6 @@ fn run_line<W: Runner>(
     Ok(runner.run(name, command.as_slice(), lent(&input), env.as_slice()))
 }
 
-/// Runs the command of an anacrontab's line, for the run of this name.
 fn run_job_line<W: Runner>(
     alloc: Global,
     table: &Anacrontab,

@@ -1,4 +1,4 @@
-//! The names, the commands and the log lines of a plan's runs.
+//! Gives the names, the commands and the log lines of a plan's runs.
 #![tactic(auto)]
 
 mod commands;

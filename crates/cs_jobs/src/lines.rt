@@ -1,4 +1,4 @@
-//! The texts of the log's lines.
+//! Writes the log's lines.
 ghost use Rattle.std.specs.Prelude.{◌≡◌, ◌++◌, OnOk};
 ghost use Rattle.cs_jobs.specs.LogLines.{bare_end, end_text, identifier_at, line_text};
 ghost use Rattle.cs_jobs.specs.LogLines.{numbered_end, outage_text, told_text};
@@ -18,13 +18,13 @@ pub enum LogLine {
     Started(Run),
     /// The run waits for its group's lock.
     Waiting(Run),
-    /// The run is skipped, since its group's lock was held.
+    /// The run is skipped, because its group's lock was held.
     Skipped(Run),
     /// The run has passed its declared time.
     Overrun(Run),
     /// The run has ended, with this outcome.
     Ended(Run, Outcome),
-    /// The clock moved from the first minute to the second, which is not the next.
+    /// The clock went from the first minute to the second, which isn't the next one.
     Outage(Minute, Minute),
     /// The stamp of this anacron job, by its index, couldn't be read.
     StampNotRead(usize),
@@ -32,7 +32,7 @@ pub enum LogLine {
     StampNotWritten(usize),
 }
 
-/// Adds the line, with its newline. The only error is out of memory.
+/// Adds the line, with its newline.
 #[tactic(auto, unfolding(crate::specs::LogLines::line_text))]
 pub fn push_line(
     alloc: Global,
@@ -46,7 +46,6 @@ pub fn push_line(
     text.extend_from_slice(b"\n")
 }
 
-/// Adds what the line tells.
 fn push_told(
     alloc: Global,
     text: &mut Vec<u8>,
@@ -67,7 +66,6 @@ fn push_told(
     }
 }
 
-/// Adds a word and the run's name.
 fn push_run(
     alloc: Global,
     text: &mut Vec<u8>,
@@ -98,7 +96,7 @@ fn push_end(
     }
 }
 
-/// Adds the end of a run, with a word and a number.
+/// A run whose end has a number: the word says which.
 #[tactic(auto, unfolding(crate::specs::LogLines::numbered_end))]
 fn push_numbered_end(
     alloc: Global,
@@ -116,7 +114,7 @@ fn push_numbered_end(
     text.extend_from_slice(number.to_string(alloc)?.as_bytes())
 }
 
-/// Adds the end of a run of which there is no number.
+/// A run whose end has no number.
 #[tactic(auto, unfolding(crate::specs::LogLines::bare_end))]
 fn push_bare_end(alloc: Global, text: &mut Vec<u8>, plan: &Plan, run: Run) -> Result<(), AllocError>
     ensures { OnOk result (text.new.items ≡ text.old.items ++ bare_end plan.now run) }
@@ -135,7 +133,6 @@ fn push_outage(text: &mut Vec<u8>, from: Minute, to: Minute) -> Result<(), Alloc
     text.extend_from_slice(&date_text(to))
 }
 
-/// Adds words, and the identifier of an anacron job by its place in the anacrontab.
 fn push_stamp(text: &mut Vec<u8>, words: &[u8], plan: &Plan, place: usize) -> Result<(), AllocError>
     ensures { OnOk result (text.new.items
         ≡ text.old.items ++ (words.now ++ identifier_at plan.now place)) }

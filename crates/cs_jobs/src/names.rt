@@ -1,4 +1,4 @@
-//! The names of jobs and of their runs.
+//! Names jobs and their runs.
 ghost use Rattle.std.specs.Prelude.{◌≡◌, ◌++◌, OnOk};
 ghost use Rattle.cs_jobs.specs.Names.{job_front, job_name, minute_if_civil, run_name};
 
@@ -7,8 +7,8 @@ use cs_history::Run;
 use cs_plan::{Plan, identifier_of, push_command_name};
 use std::alloc::{AllocError, Global};
 
-/// Adds the name of a job of the plan, by its number: `line 3` of a cron job, `job backup` of an
-/// anacron job; nothing if there is no such job. The only error is out of memory.
+/// Adds the name of a job of the plan: `line 3` for a cron job, `job backup` for an anacron job;
+/// nothing if there is no such job.
 #[tactic(auto, using(crate::proofs::JobNames::of_cron, crate::proofs::JobNames::of_anacron, crate::proofs::JobNames::of_none))]
 pub fn push_job_name(
     alloc: Global,
@@ -29,7 +29,7 @@ pub fn push_job_name(
 }
 
 /// Adds what the names of a job's runs begin with: `line 3 due ` for a cron job, `job backup at `
-/// for an anacron job; nothing if there is no such job. The only error is out of memory.
+/// for an anacron job; nothing if there is no such job.
 #[tactic(auto, using(crate::proofs::JobNames::due, crate::proofs::JobNames::at, crate::proofs::JobNames::of_no_run))]
 pub fn push_job_front(
     alloc: Global,
@@ -49,7 +49,7 @@ pub fn push_job_front(
     text.extend_from_slice(b" at ")
 }
 
-/// Adds a minute; nothing where it isn't from 1970-01-02 to 9999-12-31.
+/// Nothing if the minute isn't from 1970-01-02 to 9999-12-31.
 fn push_minute(text: &mut Vec<u8>, at: u64) -> Result<(), AllocError>
     ensures { OnOk result (text.new.items ≡ text.old.items ++ minute_if_civil at) }
 {
@@ -59,8 +59,8 @@ fn push_minute(text: &mut Vec<u8>, at: u64) -> Result<(), AllocError>
     }
 }
 
-/// Adds the name of a run, such as `line 3 due 2024-09-13 23:30`: its job, and the minute that it is
-/// due or that it began at. The only error is out of memory.
+/// Adds the name of a run, such as `line 3 due 2024-09-13 23:30`: its job, and the minute in which
+/// it was due or began.
 #[tactic(auto, unfolding(crate::specs::Names::run_name))]
 pub(crate) fn push_run_name(
     alloc: Global,

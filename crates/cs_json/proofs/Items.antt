@@ -50,7 +50,7 @@ bind_return : {A : Type 0} (r : Result (List A) JsonFault) → with_front [] r �
 bind_return (Ok xs) = refl
 bind_return (Err f) = refl
 
--- what a loop over Values keeps: what was found, before what the rest gives, is what all give
+-- what a loop keeps: what was found, then what the rest gives, is what all give
 pub record Reads {A : Type 0} (f : Data → Result A JsonFault) (all : List Value) (i : ℕ) (front : List A) : Type 0 where
   pub so_far : with_front front (all_as f (map view (drop i all))) ≡ all_as f (list_of (items_view all))
 

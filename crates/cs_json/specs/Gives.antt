@@ -9,12 +9,11 @@ abbrev pub Fails : {Y : Type 0} → Misread → Result Y JsonFault → Type 0
 Fails Memory answer = ⊤
 Fails (Fault f) answer = answer ≡ Err f
 
--- what was returned, seen by view, is the answer, unless memory ran out
+-- what was returned, seen through `view`, is the answer, unless memory ran out
 abbrev pub Gives : {X Y : Type 0} → (X → Y) → Result X Misread → Result Y JsonFault → Type 0
 Gives view (Ok x) answer = answer ≡ Ok (view x)
 Gives view (Err e) answer = Fails e answer
 
--- what is there, or the fault
 abbrev pub or_fault : {A : Type 0} → JsonFault → Option A → Result A JsonFault
 or_fault f (Some a) = Ok a
 or_fault f None = Err f

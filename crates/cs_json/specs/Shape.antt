@@ -8,7 +8,6 @@ use Rattle.cs_json.specs.Gives.{or_fault, ◌>>=◌}
 use Rattle.cs_json.specs.declared.fault.JsonFault.{JsonFault}
 use Rattle.cs_json.specs.declared.fault.JsonFault.TheVariants.{BadShape}
 
--- what is there, or BadShape
 abbrev pub or_bad_shape : {A : Type 0} → Option A → Result A JsonFault
 or_bad_shape = or_fault BadShape
 
@@ -23,26 +22,21 @@ check false = Err BadShape
 abbrev pub whole_number : Data → Result ℤ JsonFault
 whole_number d = or_bad_shape (option_and_then as_integer (as_number d))
 
--- the bytes of a text
 abbrev pub text : Data → Result (List ℕ) JsonFault
 text d = or_bad_shape (as_str d)
 
--- true or false
 abbrev pub flag : Data → Result Bool JsonFault
 flag d = or_bad_shape (as_bool d)
 
 -- ---- lists
 
--- the value of each, in order
 abbrev pub all_as : {A B : Type 0} → (A → Result B JsonFault) → List A → Result (List B) JsonFault
 all_as f [] = Ok []
 all_as f (x ∷ xs) = f x >>= (λ y. all_as f xs >>= (λ ys. Ok (y ∷ ys)))
 
--- a list, each item of the shape
 abbrev pub list_as : {A : Type 0} → (Data → Result A JsonFault) → Data → Result (List A) JsonFault
 list_as f d = or_bad_shape (as_array d) >>= (λ ds. all_as f (list_of ds))
 
--- the values of exactly two
 abbrev pub pair_of : {A B : Type 0} → (Data → Result A JsonFault) → (Data → Result B JsonFault)
     → List Data → Result (A × B) JsonFault
 pair_of f g [] = Err BadShape
@@ -50,12 +44,11 @@ pair_of f g (a ∷ []) = Err BadShape
 pair_of f g (a ∷ b ∷ []) = f a >>= (λ x. g b >>= (λ y. Ok (x, y)))
 pair_of f g (a ∷ b ∷ c ∷ ds) = Err BadShape
 
--- a list of exactly two, each of its shape
+-- a list of exactly two, each of its own shape
 abbrev pub pair_as : {A B : Type 0} → (Data → Result A JsonFault) → (Data → Result B JsonFault)
     → Data → Result (A × B) JsonFault
 pair_as f g d = or_bad_shape (as_array d) >>= (λ ds. pair_of f g (list_of ds))
 
--- the values of exactly three
 abbrev pub triple_of : {A B C : Type 0} → (Data → Result A JsonFault) → (Data → Result B JsonFault)
     → (Data → Result C JsonFault) → List Data → Result (A × B × C) JsonFault
 triple_of f g h [] = Err BadShape
@@ -64,7 +57,7 @@ triple_of f g h (a ∷ b ∷ []) = Err BadShape
 triple_of f g h (a ∷ b ∷ c ∷ []) = f a >>= (λ x. g b >>= (λ y. h c >>= (λ z. Ok (x, y, z))))
 triple_of f g h (a ∷ b ∷ c ∷ d ∷ ds) = Err BadShape
 
--- a list of exactly three, each of its shape
+-- a list of exactly three, each of its own shape
 abbrev pub triple_as : {A B C : Type 0} → (Data → Result A JsonFault) → (Data → Result B JsonFault)
     → (Data → Result C JsonFault) → Data → Result (A × B × C) JsonFault
 triple_as f g h d = or_bad_shape (as_array d) >>= (λ ds. triple_of f g h (list_of ds))
@@ -76,13 +69,12 @@ abbrev pub member_as : {A : Type 0} → (Data → Result A JsonFault) → List �
     → Result A JsonFault
 member_as f name d = or_bad_shape (get name d) >>= f
 
--- what is there, or the default
 abbrev pub if_there : {A : Type 0} → (Data → Result A JsonFault) → A → Option Data
     → Result A JsonFault
 if_there f default None = Ok default
 if_there f default (Some d) = f d
 
--- a member, or the default where it isn't there
+-- a member, or the default if it isn't there
 abbrev pub member_or_default : {A : Type 0} → (Data → Result A JsonFault) → A → List ℕ → Data
     → Result A JsonFault
 member_or_default f default name d = if_there f default (get name d)
@@ -90,15 +82,14 @@ member_or_default f default name d = if_there f default (get name d)
 abbrev pub some_of : {A : Type 0} → (Data → Result A JsonFault) → Data → Result (Option A) JsonFault
 some_of f d = f d >>= (λ x. Ok (Some x))
 
--- a member, or None where it isn't there
+-- a member, or None if it isn't there
 abbrev pub member_or_none : {A : Type 0} → (Data → Result A JsonFault) → List ℕ → Data
     → Result (Option A) JsonFault
 member_or_none f name d = if_there (some_of f) None (get name d)
 
--- an object, each member's name of which passes the test
+-- an object whose members' names pass the test
 abbrev pub object_with : (List ℕ → Bool) → Data → Result ⊤ JsonFault
 object_with named d = or_bad_shape (as_object d) >>= (λ ms. check (has_only named ms))
 
--- the name is one of these
 abbrev pub is_among : List (List ℕ) → List ℕ → Bool
 is_among names k = list_any (λ n. bytes_eq n k) names

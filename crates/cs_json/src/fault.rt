@@ -6,9 +6,9 @@ use std::alloc::{AllocError, AllocFailed};
 /// What is wrong with a text or a JSON value.
 #[derive(Clone, Copy, PartialEq, Eq)]
 pub enum JsonFault {
-    /// The bytes are not JSON as `serde_json` reads it: UTF-8, one value, nested at most 127 deep.
+    /// The bytes aren't JSON as `serde_json` reads it: UTF-8, one value, nested at most 127 deep.
     NotJson,
-    /// The value has another type or length than wanted, or other members.
+    /// The value has another type or length, or other members, than it should.
     BadShape,
 }
 

@@ -1,4 +1,4 @@
-//! JSON as values with a shape: bytes to a `Value`, a `Value` to a type of ours, and back to text.
+//! Reads JSON into types that have a shape, and writes them as JSON text.
 #![tactic(auto)]
 
 mod fault;

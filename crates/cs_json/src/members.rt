@@ -11,7 +11,7 @@ use crate::reading::FromJson;
 use serde_json::{Map, Value};
 use std::alloc::Global;
 
-/// Returns the member of that name. `BadShape` if the value is no object or lacks that member.
+/// Returns the member of that name. `BadShape` if the value is no object, or lacks it.
 pub fn value_at<'v>(value: &'v Value, name: &str) -> Result<&'v Value, Misread>
     ensures { Gives (λ v. view v.now) result (or_bad_shape (get name.now (view value.now))) }
 {
@@ -25,8 +25,8 @@ pub fn member<T: FromJson>(alloc: Global, value: &Value, name: &str) -> Result<T
     T::from_json(alloc, value_at(value, name)?)
 }
 
-/// Reads a member, or returns the default if it is absent. `BadShape` if it has another shape, such
-/// as `null`; `Memory` if memory runs out.
+/// Reads a member, or returns the default if it is absent. `BadShape` for another shape, such as
+/// `null`; `Memory` if memory runs out.
 pub fn member_or<T: FromJson>(
     alloc: Global,
     value: &Value,
@@ -42,8 +42,8 @@ pub fn member_or<T: FromJson>(
     }
 }
 
-/// Reads a member, or returns `None` if it is absent. `BadShape` if it has another shape, such as
-/// `null`; `Memory` if memory runs out.
+/// Reads a member, or returns `None` if it is absent. `BadShape` for another shape, such as `null`;
+/// `Memory` if memory runs out.
 pub fn member_if_there<T: FromJson>(
     alloc: Global,
     value: &Value,
@@ -80,7 +80,7 @@ fn has_names(object: &Map<String, Value>, names: &[&str]) -> bool
         .all(|name| is_member_name(names, name.as_str()))
 }
 
-/// Checks that the value is an object with no other members than these, without allocating.
+/// Checks, without allocating, that the value is an object with no other members than these.
 /// `BadShape` if it isn't.
 #[tactic(auto, using(crate::proofs::Items::only_names))]
 pub fn only_members(value: &Value, names: &[&str]) -> Result<(), Misread>

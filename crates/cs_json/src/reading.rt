@@ -16,7 +16,6 @@ pub trait FromJson: Drop {
     /// What a clause sees of a value of this type.
     ghost Seen: { Type 0 };
 
-    /// How a clause sees it.
     ghost seen: { Self → Seen };
 
     /// The value of a JSON value, or `BadShape`.
@@ -27,8 +26,8 @@ pub trait FromJson: Drop {
         ensures { Gives seen result (shape (view value.now)) };
 }
 
-/// A whole number that `serde_json` holds as a `u64` or an `i64`: `BadShape` for `1.0`, `1e2`, `-0`
-/// and wider numbers.
+/// A whole number that `serde_json` holds as a `u64` or an `i64`. `BadShape` for `1.0`, `1e2`, `-0`
+/// and larger numbers.
 impl FromJson for i128 {
     ghost Seen = { ℤ };
 
@@ -86,7 +85,7 @@ impl<T: FromJson> FromJson for Vec<T> {
     }
 }
 
-/// Returns the items of a list.
+/// Returns the items of a list. `BadShape` if it isn't one.
 pub fn items(value: &Value) -> Result<&Vec<Value>, Misread>
     ensures { Gives (λ l. items_view l.now.items) result
         (or_bad_shape (as_array (view value.now))) }

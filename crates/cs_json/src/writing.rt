@@ -14,7 +14,7 @@ pub trait ToJson {
     /// The JSON value that is written.
     ghost spelled: { Self → Data };
 
-    /// Returns the JSON value. The only error is out of memory.
+    /// Returns the JSON value.
     fn to_json(&self, alloc: Global) -> Result<Value, AllocError>
         ensures { IfOk result (λ v. view v ≡ spelled self.now) };
 
@@ -133,8 +133,7 @@ fn values<T: ToJson>(alloc: Global, list: &[T]) -> Result<Vec<Value>, AllocError
     Ok(found)
 }
 
-/// Writes the compact text of a value, which can be read back if it nests at most 127 deep. The
-/// only error is out of memory.
+/// Writes the compact text of a value, which can be read back if it nests at most 127 deep.
 pub fn write<T: ToJson>(alloc: Global, value: &T) -> Result<Vec<u8>, AllocError>
     ensures text { IfOk result (λ b. b.items ≡ compact_text (T.spelled value.now)) }
     ensures reads_back { IfOk result

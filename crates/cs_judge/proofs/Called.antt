@@ -1,4 +1,3 @@
--- A plan that was judged safe is called safe.
 use Rattle.std.proofs.Common.{◌≡◌, Option, None, Some, true, is_some}
 use Rattle.std.specs.Prelude.{IfSome}
 use Rattle.cs_check.specs.declared.checked.Checked.{Checked}

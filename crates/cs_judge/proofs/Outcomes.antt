@@ -1,4 +1,3 @@
--- What an answer stands for.
 use Rattle.std.proofs.Common.{◌≡◌, inl, inr, ℕ, List}
 use Rattle.cs_claims.specs.Content.{Content}
 use Rattle.cs_check.specs.Checked.{IsHeadline, certificate_in}
@@ -15,7 +14,6 @@ use Rattle.cs_judge.specs.declared.answers.Wanted.TheVariants.{Certificate, Comp
 use Rattle.cs_judge.specs.declared.judged.Judged.{Judged}
 use Rattle.cs_judge.specs.declared.judged.Judged.TheVariants.{Safe, Unsafe, Unknown}
 
--- what isn't known isn't safe
 unknown_not_safe : {A : Type 0} (reason : Reason) (found : Outcome) → found ≡ unknown_outcome reason
     → found ≡ outcome.Safe → A
 unknown_not_safe TooManyClasses found is safe = absurd (cc)
@@ -43,7 +41,6 @@ safe_stands Certificate plan places (Unknown reason refusal) found text known is
 safe_stands Compact plan places (Unknown reason refusal) found text known is safe =
     unknown_not_safe reason found is.1.0 safe
 
--- what isn't known isn't unsafe
 unknown_not_unsafe : {A : Type 0} (reason : Reason) (found : Outcome) → found ≡ unknown_outcome reason
     → found ≡ outcome.Unsafe → A
 unknown_not_unsafe TooManyClasses found is unsafe = absurd (cc)
@@ -54,7 +51,6 @@ unknown_not_unsafe NoScript found is unsafe = absurd (cc)
 unknown_not_unsafe NotChecked found is unsafe = absurd (cc)
 unknown_not_unsafe NoMemory found is unsafe = absurd (cc)
 
--- nor is what was accepted, whether a file can hold its certificate or not
 made_not_unsafe : {A : Type 0} (c : Content) (found : Outcome) (text : List ℕ)
     → IsSafeMade c found text → found ≡ outcome.Unsafe → A
 made_not_unsafe c found text (inl made) unsafe = let found_so = made.0 in absurd (cc)

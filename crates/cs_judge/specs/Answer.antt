@@ -43,20 +43,19 @@ job_of (End r) = Some r.job
 job_of Down = None
 job_of (Up t) = None
 
--- for each line of the crontab that the script names and that has a place, the comment
--- `# line 14 is /etc/cron.d/munin:12 (munin): COMMAND`
+-- for each line of the crontab that the script names and that has a place, the comment `# line 14
+-- is /etc/cron.d/munin:12 (munin): COMMAND`
 unfoldable pub story_places : Declared → List Place → Script → List ℕ
 story_places plan places script =
     places_told (codes "# ") places (filter_map job_of script.events) 0 plan.crontab.lines
 
--- `unsafe: ` and what is broken first, a line, comments that tell the story of that, the places of
--- the lines that the script names, and then the script
+-- `unsafe: ` and what is broken first, a line; comments that tell the story of that; the places of
+-- the lines that the script names; and then the script
 unfoldable pub unsafe_text : Declared → List Place → Script → Shown → List (List ℕ) → List ℕ
 unsafe_text plan places script shown story = shown_text plan shown
     ++ 10 ∷ (flat_map comment story
     ++ (story_places plan places script ++ script_text plan script))
 
--- so it is, with some story
 abbrev pub IsUnsafeText : Declared → List Place → Script → Shown → List ℕ → Type 0
 IsUnsafeText plan places script shown text =
     (story : List (List ℕ)) × (text ≡ unsafe_text plan places script shown story)
@@ -66,16 +65,14 @@ unfoldable pub unknown_text : Reason → List (List ℕ) → List ℕ
 unknown_text reason comments =
     codes "unknown: " ++ (reason_name reason ++ 10 ∷ flat_map comment comments)
 
--- so it is, with some comments
 abbrev pub IsUnknownText : Reason → List ℕ → Type 0
 IsUnknownText reason text =
     (comments : List (List ℕ)) × (text ≡ unknown_text reason comments)
 
--- the line of a refusal
 unfoldable pub refusal_text : Declared → Fault → List ℕ
 refusal_text plan fault = fault_text plan fault ++ 10 ∷ []
 
--- nothing is known, and whether that is since memory ran out
+-- unknown, and whether that is because memory ran out
 abbrev pub unknown_outcome : Reason → Outcome
 unknown_outcome TooManyClasses = outcome.Unknown
 unknown_outcome LeafTooLong = outcome.Unknown
@@ -85,13 +82,12 @@ unknown_outcome NoScript = outcome.Unknown
 unknown_outcome NotChecked = outcome.Unknown
 unknown_outcome NoMemory = outcome.NoMemory
 
--- how a plan was found
 abbrev pub outcome_of : Judged → Outcome
 outcome_of (Safe checked) = outcome.Safe
 outcome_of (Unsafe script shown breach) = outcome.Unsafe
 outcome_of (Unknown reason refusal) = unknown_outcome reason
 
--- what is printed where nothing is known, behind which the line of a refusal may stand
+-- what is printed for an unknown plan, after which the line of a refusal may follow
 abbrev pub IsUnknown : Declared → Reason → Option CheckFault → List ℕ → Type 0
 IsUnknown plan reason None text = IsUnknownText reason text
 IsUnknown plan reason (Some fault) text = (comments : List (List ℕ))
@@ -103,13 +99,14 @@ IsVerdict plan places (Safe checked) text = text ≡ codes "safe\n"
 IsVerdict plan places (Unsafe script shown breach) text = IsUnsafeText plan places script shown text
 IsVerdict plan places (Unknown reason refusal) text = IsUnknown plan reason refusal text
 
--- the text of a certificate, a line of a file that may be read again
+-- the text of a certificate, a line of a file that can be read again
 abbrev pub IsCertificate : Content → List ℕ → Type 0
 IsCertificate c text = (written : List ℕ) × (written ≡ compact_text (certificate_data c))
     × (certificate_by written ≡ Ok c) × (length written < MAX_CERTIFICATE)
     × (text ≡ written ++ 10 ∷ [])
 
--- what `make` prints for a plan accepted with this certificate: it, or that no file can hold it
+-- what `make` prints for a plan accepted with this certificate: the certificate, or that no file
+-- can hold it
 abbrev pub IsSafeMade : Content → Outcome → List ℕ → Type 0
 IsSafeMade c found text = ((found ≡ outcome.Safe) × IsCertificate c text)
     ⊎ ((found ≡ outcome.Unknown) × IsUnknownText LeafTooLong text)
@@ -122,7 +119,7 @@ IsMade plan places (Unsafe script shown breach) found text =
 IsMade plan places (Unknown reason refusal) found text =
     (found ≡ unknown_outcome reason) × IsUnknownText reason text
 
--- what is printed of a plan that was judged, by what is wanted of it
+-- what is printed for a judged plan, by what is wanted of it
 abbrev pub IsAnswer : Wanted → Declared → List Place → Judged → Outcome → List ℕ → Type 0
 IsAnswer Verdict plan places judged found text =
     (found ≡ outcome_of judged) × IsVerdict plan places judged text
@@ -130,8 +127,8 @@ IsAnswer Certificate plan places judged found text = IsMade plan places judged f
 IsAnswer Compact plan places judged found text =
     IsJudgedBy Compact judged × IsMade plan places judged found text
 
--- the text says what a script breaks first and tells the story of that, where its lines come from,
--- and then has the script, which shows the plan unsafe
+-- the text says what a script breaks first, tells the story of that, says where its lines come
+-- from, and then has the script, which shows the plan unsafe
 pub record IsStory (plan : Declared) (places : List Place) (text : List ℕ) : Type 0 where
   pub script : Script
   pub shown : Shown

@@ -1,4 +1,3 @@
--- What is called safe.
 use Rattle.std.specs.Prelude.{ℕ}
 use Rattle.cs_check.specs.Case.{reach_for}
 use Rattle.cs_check.specs.Checked.{certificate_in, plan_in}
@@ -7,8 +6,8 @@ use Rattle.cs_plan.specs.Plan.{Declared}
 use Rattle.cs_judge.specs.Judged.{IsJudgement}
 use Rattle.cs_judge.specs.declared.judged.Judged.TheVariants.{Safe}
 
--- the judgement of the plan is that it is safe: the checker has accepted it, every legal history in
--- time is safe, and each minute is calm
+-- the plan was judged safe: the checker has accepted it, every legal history in time is safe, and
+-- each minute is calm
 unfoldable pub IsCalledSafe : Declared → Type 0
 IsCalledSafe plan = (checked : Checked) × IsJudgement plan (Safe checked)
 

@@ -1,4 +1,3 @@
--- By which certificate a plan is judged.
 use Rattle.std.specs.Prelude.{⊤}
 use Rattle.cs_check.specs.Checked.{certificate_in}
 use Rattle.cs_check.specs.declared.checked.Checked.{Checked}
@@ -13,6 +12,6 @@ IsAsWanted Verdict checked = IsCompact (certificate_in checked)
 IsAsWanted Certificate checked = ⊤
 IsAsWanted Compact checked = IsCompact (certificate_in checked)
 
--- where a plan is safe, it was judged by such a certificate
+-- a plan that is safe was judged by such a certificate
 abbrev pub IsJudgedBy : Wanted → Judged → Type 0
 IsJudgedBy wanted judged = IfSafe judged (IsAsWanted wanted)

@@ -14,19 +14,19 @@ use Rattle.cs_counterexample.specs.declared.shown.Shown.{Shown}
 use Rattle.cs_judge.specs.declared.judged.Judged.{Judged}
 use Rattle.cs_judge.specs.declared.judged.Judged.TheVariants.{Safe, Unsafe, Unknown}
 
--- what holds of the checked plan, where the answer is safe
+-- what holds of the checked plan, if the answer is safe
 abbrev pub IfSafe : Judged → (Checked → Type 0) → Type 0
 IfSafe (Safe checked) P = P checked
 IfSafe (Unsafe script shown breach) P = ⊤
 IfSafe (Unknown reason refusal) P = ⊤
 
--- and of the script and of what it breaks first, where it is unsafe
+-- of the script and what it breaks first, if it is unsafe
 abbrev pub IfUnsafe : Judged → (Script → Shown → Type 0) → Type 0
 IfUnsafe (Safe checked) P = ⊤
 IfUnsafe (Unsafe script shown breach) P = P script shown
 IfUnsafe (Unknown reason refusal) P = ⊤
 
--- and of the refusal, where there is one after what is unknown
+-- of the refusal, if the plan is unknown and there is one
 abbrev pub IfRefused : Judged → (CheckFault → Type 0) → Type 0
 IfRefused (Safe checked) P = ⊤
 IfRefused (Unsafe script shown breach) P = ⊤
@@ -50,7 +50,6 @@ pub record Shows (plan : Declared) (script : Script) (shown : Shown) : Type 0 wh
   pub breaks : IsShown (as_plan plan) script shown
   pub tellable : IsTellable (as_plan plan) shown
 
--- a compact certificate is one of version 3
 abbrev pub IsCompact : Content → Type 0
 IsCompact c = c.version ≡ 3
 
@@ -58,8 +57,8 @@ IsCompact c = c.version ≡ 3
 abbrev pub IsRefusal : Declared → CheckFault → Type 0
 IsRefusal plan fault = (c : Content) × IsCompact c × (fault_of plan c ≡ Some (told fault))
 
--- what is known of a plan is so: where it is called safe, the checker has accepted it, every legal
--- history in time is safe and each minute is calm; where it is called unsafe, the script shows it;
+-- what is known of a plan is true: if it is called safe, the checker has accepted it, every legal
+-- history in time is safe, and each minute is calm; if it is called unsafe, the script shows that;
 -- and a refusal is the checker's, of a compact certificate
 pub record IsJudgement (plan : Declared) (judged : Judged) : Type 0 where
   pub safe : IfSafe judged (IsCheckedFor plan)

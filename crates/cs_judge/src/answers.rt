@@ -1,4 +1,3 @@
-//! The texts printed for a judged plan.
 ghost use Rattle.std.specs.Prelude.{◌≡◌, ◌++◌, ℕ, List, IfOk, IfSome, OnOk};
 ghost use Rattle.std.specs.List.{filter_map};
 ghost use Rattle.cs_claims.specs.Certificate.{content};
@@ -58,7 +57,6 @@ fn unknown_outcome(reason: Reason) -> Outcome
     }
 }
 
-/// `unknown: REASON`, a line, and comments on that reason.
 #[tactic(auto, unfolding(crate::specs::Answer::unknown_text))]
 fn unknown_text(alloc: Global, plan: &Plan, reason: Reason) -> Result<Vec<u8>, AllocError>
     ensures { IfOk result (λ text. IsUnknownText reason text.items) }
@@ -84,7 +82,6 @@ fn job_of(event: Event) -> Option<u16>
     }
 }
 
-/// The jobs that events name.
 fn jobs_in(alloc: Global, events: &[Event]) -> Result<Vec<usize>, AllocError>
     ensures { IfOk result (λ jobs. jobs.items ≡ filter_map job_of events.now) }
 {
@@ -97,7 +94,6 @@ fn jobs_in(alloc: Global, events: &[Event]) -> Result<Vec<usize>, AllocError>
     Ok(jobs)
 }
 
-/// Adds a comment for each line that the script names and that has a place.
 #[tactic(auto, unfolding(crate::specs::Answer::story_places))]
 fn push_story_places(
     alloc: Global,
@@ -121,7 +117,6 @@ fn push_story_places(
     )
 }
 
-/// A line for what the script breaks first, its story, the places of its lines, and the script.
 #[tactic(auto, unfolding(crate::specs::Answer::unsafe_text))]
 fn unsafe_text(
     alloc: Global,
@@ -154,7 +149,6 @@ fn outcome_of(judged: &Judged) -> Outcome
     }
 }
 
-/// A line for why a plan is unknown, and a line for the refusal.
 #[tactic(auto, unfolding(crate::specs::Answer::refusal_text))]
 fn refused_text(
     alloc: Global,
@@ -171,7 +165,6 @@ fn refused_text(
     Ok(text)
 }
 
-/// What is printed if the verdict is asked for.
 fn verdict_text(
     alloc: Global,
     plan: &Plan,
@@ -191,7 +184,6 @@ fn verdict_text(
     }
 }
 
-/// The text of a certificate, a line, if a file can hold it.
 fn certificate_line(alloc: Global, certificate: &Certificate) -> Result<Option<Vec<u8>>, AllocError>
     ensures { IfOk result (λ line.
         IfSome line (λ text. IsCertificate (content certificate.now) text.items)) }
@@ -207,7 +199,6 @@ fn certificate_line(alloc: Global, certificate: &Certificate) -> Result<Option<V
     Ok(Some(text))
 }
 
-/// What `make` prints for a plan that is safe.
 fn safe_made(
     alloc: Global,
     plan: &Plan,
@@ -225,7 +216,6 @@ fn safe_made(
     }
 }
 
-/// What is printed if a certificate is asked for.
 fn made(
     alloc: Global,
     plan: &Plan,
@@ -252,14 +242,15 @@ fn made(
     }
 }
 
-/// Returns the outcome of a judged plan, and what is printed for it.
+/// Returns the outcome of a judged plan, and what is printed for it. The only error is out of
+/// memory.
 ///
-/// A verdict is `safe`, a line; or what a history breaks first and its script, lines; or `unknown:
-/// REASON` and, if the checker refused a certificate, a line for that refusal. Between the first
-/// line and the script stand comments: the story of what is broken, and the place of each line of
-/// the crontab that the script names and that has one. Comments follow `unknown: NoReach`. If a
-/// certificate is asked for, the accepted one replaces `safe`, and no refusal follows `unknown`; a
-/// certificate above 16 MiB is `unknown: LeafTooLong`. The only error is out of memory.
+/// A verdict is `safe`; or what a history breaks first, and its script; or `unknown: REASON` and,
+/// if the checker refused a certificate, a line for that refusal. Comments between the first line
+/// and the script have the story of what is broken, and the place of each line of the crontab that
+/// the script names and that has one. Comments follow `unknown: NoReach`. If a certificate is asked
+/// for, the accepted one replaces `safe`, and no refusal follows `unknown`; a certificate over 16
+/// MiB is `unknown: LeafTooLong`.
 pub fn answer(
     alloc: Global,
     plan: &Plan,

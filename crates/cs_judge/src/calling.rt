@@ -1,4 +1,3 @@
-//! What is called safe, without a script where it isn't.
 ghost use Rattle.std.specs.Prelude.{◌≡◌, IfOk, IfSome, true};
 ghost use Rattle.cs_check.specs.Checked.{StayInWindows, plan_in};
 ghost use Rattle.cs_plan.specs.Plan.{as_plan};
@@ -14,8 +13,8 @@ use cs_plan::Plan;
 use std::alloc::{AllocError, Global};
 use std::thread::Threads;
 
-/// The plan with the maker's compact certificate, if [`judge`](crate::judge) calls it safe. No
-/// script is searched where it doesn't. The only error is out of memory.
+/// Returns the plan with the maker's compact certificate, if [`judge`](crate::judge) calls it safe.
+/// No script is searched for if it doesn't. The only error is out of memory.
 pub fn called_safe<R: Threads + Sync>(
     rt: &R,
     alloc: Global,
@@ -31,7 +30,7 @@ pub fn called_safe<R: Threads + Sync>(
     }
 }
 
-/// Checks whether [`judge`](crate::judge) calls a plan safe, and searches no script where it
+/// Checks whether [`judge`](crate::judge) calls a plan safe. No script is searched for if it
 /// doesn't. The only error is out of memory.
 pub fn is_called_safe<R: Threads + Sync>(
     rt: &R,

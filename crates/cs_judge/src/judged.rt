@@ -8,10 +8,10 @@ use cs_verdict::Breach;
 /// What is known of a plan.
 #[derive(Drop)]
 pub enum Judged {
-    /// It is safe, whatever happens: the checker has accepted it with this certificate.
+    /// It is safe: the checker has accepted it with this certificate.
     Safe(Checked),
     /// It is unsafe: this script is a history in which each run ends in time, and first breaks
-    /// this, while this runs.
+    /// this, while these run.
     Unsafe(Script, Shown, Breach),
     /// Neither, and why; and why the checker refuses the maker's certificate, if there was one.
     Unknown(Reason, Option<CheckFault>),

@@ -20,8 +20,8 @@ use cs_verdict::{Breach, first_breach};
 use std::alloc::{AllocError, Global};
 use std::thread::Threads;
 
-/// The plan checked with a certificate of the maker, or why the checker refuses that, if there is
-/// one.
+/// The plan checked with the maker's certificate, or why the checker refuses that. Neither if there
+/// is none.
 pub(crate) fn check<R: Threads + Sync>(
     rt: &R,
     alloc: Global,
@@ -45,8 +45,7 @@ pub(crate) fn check<R: Threads + Sync>(
     }
 }
 
-/// The verdict on a plan that was accepted with a compact certificate: with the one that lists
-/// windows if that is wanted and accepted too.
+/// A certificate that lists windows replaces the compact one if it is wanted and accepted too.
 fn accept<R: Threads + Sync>(
     rt: &R,
     alloc: Global,
@@ -69,7 +68,6 @@ fn accept<R: Threads + Sync>(
     }
 }
 
-/// What a script breaks first and what runs then, if it can be written and shows the plan unsafe.
 fn show(alloc: Global, plan: &Plan, script: &Script) -> Result<Option<(Shown, Breach)>, AllocError>
     ensures { IfOk result
         (λ found. IfSome found (λ it. Shows plan.now script.now it.0)) }
@@ -86,8 +84,8 @@ fn show(alloc: Global, plan: &Plan, script: &Script) -> Result<Option<(Shown, Br
     Ok(Some((shown, breach)))
 }
 
-/// The maker's counterexample, what it breaks first and what runs then, or why there is none that
-/// shows the plan unsafe.
+/// What it breaks first and what runs then come with the script. The reason is why there is none
+/// that shows the plan unsafe.
 fn refute(
     alloc: Global,
     plan: &Plan,
@@ -105,7 +103,6 @@ fn refute(
     }
 }
 
-/// The verdict on a plan, by what its maker makes. The only error is out of memory.
 fn decide<R: Threads + Sync>(
     rt: &R,
     alloc: Global,

@@ -9,7 +9,7 @@ ghost use Rattle.cs_judge.specs.declared.answers.Outcome.TheVariants.{Safe, Unsa
 ghost use Rattle.cs_judge.specs.declared.answers.Wanted.{Wanted};
 ghost use Rattle.cs_judge.specs.declared.judged.Judged.{Judged};
 
-/// Lemma. If what is known of a plan is so, the answer means what it says.
+/// Lemma. If what is known of a plan is true, the answer means what it says.
 #[tactic(auto, using(crate::proofs::Outcomes::safe_stands, crate::proofs::Outcomes::unsafe_stands))]
 pub fn outcomes_hold()
 

@@ -1,5 +1,6 @@
-//! Judges a plan: safe, if the checker accepts the maker's certificate, unsafe, if a script shows
-//! that, or unknown. The maker is not trusted.
+//! Judges a plan safe if the checker accepts it, unsafe if a script shows that, else unknown.
+//!
+//! The maker of certificates and scripts isn't trusted.
 #![tactic(auto)]
 
 mod answers;

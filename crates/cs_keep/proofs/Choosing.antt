@@ -19,7 +19,6 @@ use Rattle.cs_keep.specs.declared.tick.Kind.TheVariants.{Settling, Catching}
 use Rattle.cs_keep.specs.Tick.{is_of, first, next_of, chosen, most, choosing, after_all}
 use Rattle.cs_keep.proofs.Room.{rest_fewer}
 
--- what is first of those that pass two tests passes both
 first_passes : (t q : Event → Bool) (es : List Event) (e : Event) → first (filter t (filter q es)) ≡ Some e → (t e ≡ true) × (q e ≡ true)
 first_passes t q [] e h = absurd (cc)
 first_passes t q (x ∷ es) e h = go (q x) refl (first_passes t q es e) h
@@ -36,11 +35,9 @@ no_refusal : (o : Option Refusal) → is_none o ≡ true → o ≡ None
 no_refusal None e = refl
 no_refusal (Some f) e = absurd (cc)
 
--- the next choice of a kind is of the kind, and is not refused
 pub next_is : (k : Kind) (p : Plan) (s : State) (e : Event) → next_of k p s ≡ Some e → (is_of k e ≡ true) × (refusal p s e ≡ None)
 next_is k p s e h = let q = first_passes (is_of k) (λ e. is_none (refusal p s e)) (candidates s) e h in (q.0, no_refusal (refusal p s e) q.1)
 
--- where there is none, each choice is of another kind
 none_passes : (t : Event → Bool) (es : List Event) → first (filter t es) ≡ None → (e : Event) (i : ℕ) → i < length es → Rattle.std.proofs.Common.get_or es i e ≡ e → t e ≡ false
 none_passes t [] h e i l g = absurd (omega (arith, l))
 none_passes t (x ∷ es) h e i l g = go (t x) refl h (λ n. none_passes t es n e) i l g
@@ -53,7 +50,7 @@ none_passes t (x ∷ es) h e i l g = go (t x) refl h (λ n. none_passes t es n e
 pub none_of : (k : Kind) (p : Plan) (s : State) → next_of k p s ≡ None → (e : Event) → Contains (choices p s) e → is_of k e ≡ false
 none_of k p s h e c = none_passes (is_of k) (choices p s) h e c.0 c.1 c.2
 
--- an event of a kind makes the number left to it smaller
+-- an event of a kind leaves fewer of the kind
 waiting_most : (a : Answer) (ws : List Run) (w : Run) → length (with_waiting a ws w) ≤ length ws + 1
 waiting_most Starts ws w = omega arith
 waiting_most Waits ws w = let e = length-append ws (w ∷ []) in omega (arith, e)
@@ -137,7 +134,7 @@ module _ (k : Kind) (p : Plan) where
       let some : most k s ≡ suc (most k s - 1) = omega (arith, f) in
       ap (λ n. chosen k p n s) some ∙ one_more (most k s - 1) s e h ∙ ap (λ (es : List Event). e ∷ es) (enough (most k s - 1) (most k (after p s e)) (after p s e) (omega (arith, f)) (omega arith))
 
--- the present minute, and that the daemon is up, stay
+-- the present minute stays, and so does the daemon, up or down
 keeps : (k : Kind) (p : Plan) (s : State) (e : Event) → is_of k e ≡ true → ((after p s e).now ≡ s.now) × ((after p s e).up ≡ s.up)
 keeps Settling p s (Minute t) h = absurd (cc)
 keeps Settling p s (Begin j) h = (refl, refl)
@@ -154,7 +151,7 @@ keeps Catching p s (End r) h = absurd (cc)
 keeps Catching p s Down h = absurd (cc)
 keeps Catching p s (Up t) h = absurd (cc)
 
--- none is left of the kind
+-- none of the kind is left
 pub record IsDone (k : Kind) (p : Plan) (s t : State) : Type 0 where
   pub none : next_of k p t ≡ None
   pub now : t.now ≡ s.now
@@ -182,7 +179,6 @@ module _ (k : Kind) (p : Plan) where
   pub done : (s : State) → IsDone k p s (after_all p s (choosing k p s))
   done s = done_by (most k s) s (omega arith)
 
--- then all is settled
 same_self : (w : Run) → same_run w w ≡ true
 same_self w = and_from (w.job == w.job) (w.at == w.at) (eq-eqb w.job w.job refl) (eq-eqb w.at w.at refl)
 

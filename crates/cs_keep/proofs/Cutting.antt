@@ -15,7 +15,6 @@ use Rattle.cs_history.proofs.Steps.{reached}
 use Rattle.cs_core.proofs.Order.{few_anacron}
 use Rattle.cs_keep.specs.Keeping.{IsIdle, start_from}
 
--- there is a stamp for each anacron job
 one_each : (p : Plan) (h : History) → length (stamps p h) ≡ p.jobs - p.crons
 one_each p (From s) =
     let n = p.jobs - p.crons in
@@ -35,7 +34,6 @@ one_each p (h ▸ End r) = go (is_cron p r.job) (one_each p h)
 one_each p (h ▸ Down) = one_each p h
 one_each p (h ▸ Up t) = one_each p h
 
--- so they are at most 64
 pub few_stamps : (d : Declared) (base : Start) (es : List (Event × Reply)) (s : State) → IsWhole d → IsJournal (as_plan d) base es s → length s.stamps ≤ 64
 few_stamps d base es s whole j =
     let e = ap (λ (x : State). length x.stamps) j.leaves ∙ one_each (as_plan d) (told base es) in

@@ -88,7 +88,6 @@ before_from r q h =
     ⊎_elim (λ a. or_left (nat_lt r.job q.job) ((r.job == q.job) && nat_lt r.at q.at) (lt-ltb r.job q.job a))
     (λ a. or_right (nat_lt r.job q.job) ((r.job == q.job) && nat_lt r.at q.at) (and_from (r.job == q.job) (nat_lt r.at q.at) (eq-eqb r.job q.job a.0) (lt-ltb r.at q.at a.1))) h
 
--- what comes before one comes before each that doesn't
 before_over : (x z w : Run) → is_before x z ≡ true → is_before w z ≡ false → is_before x w ≡ true
 before_over x z w e n =
     ⊎_elim (λ (less : x.job < w.job). before_from x w (inl less)) (λ (more : w.job ≤ x.job).
@@ -115,7 +114,7 @@ earlier_first t x (y ∷ l) a = by (t y) (earlier_first t x l a.1)
     by true rest = ap (λ (c : Bool). if c then x else y) a.0
     by false rest = rest
 
--- one run more, at its place
+-- a run that takes its place changes what is first only if it passes and comes before it
 placed_first : (t : Run → Bool) (x : Run) (l : List Run) → EachPair (λ r q. is_before q r ≡ false) l → first_run (filter t (placed is_before x l)) ≡ with_run t (first_run (filter t l)) x
 placed_first t x [] a = by (t x)
   where
@@ -220,7 +219,6 @@ module _ (p : Plan) (s : State) where
       ∙ first_append q gots (catches ++ ends) ∙ ap (λ o. or_first o (first (filter q (catches ++ ends)))) no_got
       ∙ first_append q catches ends ∙ ap (λ o. or_first (first (filter q catches)) o) tail ∙ or_none (first (filter q catches))
 
-  -- a core that is down
   down : s.up ≡ false → (e : Event) → (rest : Option Refusal) → refusal p s e ≡ unless s.up NotUp rest → is_none (refusal p s e) ≡ false
   down off e rest is = ap is_none is ∙ ap (λ (b : Bool). is_none (if b then rest else Some NotUp)) off
 
@@ -231,7 +229,6 @@ module _ (p : Plan) (s : State) where
       let no_got : first (filter q gots) ≡ None = none_first q gots (all-map (λ e. q e ≡ false) (λ (w : Run). Got w.job w.at) (by_name s.waiting) (all_any (λ (w : Run). q (Got w.job w.at) ≡ false) (by_name s.waiting) (λ w. ap (λ b. b && true) (down off (Got w.job w.at) _ refl)))) in
       sym (settle_is ∙ ap (λ o. or_first o (first (filter q gots))) no_begin ∙ no_got)
 
-  -- a job that is due
   pub settle_begin : (j : ℕ) (js : List ℕ) → s.up ≡ true → s.pending ≡ j ∷ js → Some (Begin j) ≡ next_of Settling p s
   settle_begin j js up is =
       let q = passing Settling in
@@ -240,7 +237,6 @@ module _ (p : Plan) (s : State) where
       let at_first : first (filter q begins) ≡ Some (Begin j) = ap (λ (l : List ℕ). first (filter q (map (λ i. Begin i) l))) is ∙ ap (λ (b : Bool). first (cond b (Begin j ∷ filter q (map (λ i. Begin i) js)) (filter q (map (λ i. Begin i) js)))) may in
       sym (settle_is ∙ ap (λ o. or_first o (first (filter q gots))) at_first)
 
-  -- nothing is due
   got_is : (ws : List Run) → first (filter (passing Settling) (map (λ w. Got w.job w.at) ws)) ≡ option_map got_of (first_run (filter (may_get p s) ws))
   got_is [] = refl
   got_is (w ∷ ws) = by (may_get p s w) (got_is ws)
@@ -269,7 +265,6 @@ module _ (p : Plan) (s : State) where
       let any : list_any (λ w. is_free p s.running w.job) s.waiting ≡ false = not-true _ (and_parts (is_nothing s.pending) (not (list_any (λ w. is_free p s.running w.job) s.waiting)) e).1 in
       fold_none (may_get p s) s.waiting (all_map (λ (w : Run). is_free p s.running w.job ≡ false) (λ w. may_get p s w ≡ false) s.waiting (λ w n. held s.up (list_any (same_run (run_of w.job w.at)) s.waiting) (is_free p s.running w.job) n) (none_passes (λ (w : Run). is_free p s.running w.job) s.waiting any))
 
-  -- the pass
   pub catch_none_left : jobs_left s.pass ≡ [] → None ≡ next_of Catching p s
   catch_none_left is = sym (catch_is ∙ ap (λ (l : List ℕ). first (filter (passing Catching) (map (λ i. Catch i) l))) is)
 
@@ -300,7 +295,6 @@ module _ (p : Plan) (s : State) where
           let none : refusal p s (Catch i) ≡ None = subst (λ k. refusal p s (Catch k) ≡ None) (sym same) may in
           both_ways false refl (ap is_none (sym refused ∙ none))
 
--- the first of a list, if there is one
 pub head_is : (xs : List ℕ) (j : ℕ) → Some j ≡ slice_get xs 0 → (js : List ℕ) × (xs ≡ j ∷ js)
 head_is [] j e = absurd (cc)
 head_is (x ∷ xs) j e = let same : x ≡ j = cc in (xs, ap (λ y. y ∷ xs) same)

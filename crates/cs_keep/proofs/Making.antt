@@ -19,7 +19,6 @@ pub by_append : (t : Keeping × Place) (es fs : List Event) → stepped_by t (es
 by_append t [] fs = refl
 by_append t (e ∷ es) fs = by_append (stepped t e) es fs
 
--- the plan stays, and the core goes from state to state
 pub by_declared : (t : Keeping × Place) (es : List Event) → (stepped_by t es).0.core.plan ≡ t.0.core.plan
 by_declared t [] = refl
 by_declared t (e ∷ es) = by_declared (stepped t e) es
@@ -32,7 +31,6 @@ pub by_state : (t : Keeping × Place) (es : List Event) → (stepped_by t es).0.
 by_state t [] = refl
 by_state t (e ∷ es) = by_state (stepped t e) es
 
--- the same events with more after them
 full_longer : (k : Keeping) (es fs : List Event) → IsFullAt k es → IsFullAt k (es ++ fs)
 full_longer k [] fs h = absurd h
 full_longer k (e ∷ es) fs h = h
@@ -51,7 +49,6 @@ short_longer t u es fs f s = record {
   why = fault_longer (stepped_by t s.made).0 s.rest fs f s.why;
 }
 
--- events made after others
 pub short_behind : (t u : Keeping × Place) (es fs : List Event) (f : TickFault) → IsCutShort (stepped_by t es) fs f u → IsCutShort t (es ++ fs) f u
 short_behind t u es fs f s =
     let at = by_append t es s.made in record {

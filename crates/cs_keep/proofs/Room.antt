@@ -39,7 +39,6 @@ module _ {X : Type 0} (t : X → Bool) where
       go true n h more = omega (arith, h)
       go false n h more = omega (arith, more (rest n))
 
--- an end takes a run away
 pub end_room : (p : Plan) (s : State) (r : Run) → refusal p s (End r) ≡ None → length (after p s (End r)).running + 1 ≤ length s.running
 end_room p s r n = rest_fewer (λ (x : Going). same_run r x.run) s.running (passed _ _ _ n).0
 
@@ -68,7 +67,7 @@ not_full k e a b =
 first_is : (o : Option Refusal) (b : Bool) → o ≡ None → (or_full o b) ≡ (if b then Some HistoryFull else None)
 first_is o b e = ap (λ x. or_full x b) e
 
--- a refusal for lack of room in the journal
+-- a refusal because the journal is full
 pub refused_full : (k : Keeping) (e : Event) → refusal (plan_of k) k.core.state e ≡ None → length k.journal + length k.core.state.running ≤ MAX_ENTRIES → k.total + length k.core.state.running < 2 ^ 64
     → (MAX_ENTRIES < length k.journal + 1 + runs_after k e) ⊎ (2 ^ 64 - 1 < k.total + 1 + runs_after k e) → IsRefused k e HistoryFull
 refused_full k e n few counted h = record {
@@ -76,7 +75,7 @@ refused_full k e n few counted h = record {
   end = λ q. let room = is_end_room (plan_of k) k.core.state e n q in absurd (⊎_elim (λ x. omega (arith, room, few, x)) (λ x. omega (arith, room, counted, x)) h);
 }
 
--- a refusal for lack of memory, where the event needs more than the room kept
+-- a refusal because memory runs out, where the event needs more than the room kept
 pub refused_memory : (k : Keeping) (e : Event) → refusal (plan_of k) k.core.state e ≡ None → length k.journal + 1 + runs_after k e ≤ MAX_ENTRIES → k.total + 1 + runs_after k e ≤ 2 ^ 64 - 1
     → length k.core.state.running < 1 + runs_after k e → IsRefused k e OutOfMemory
 refused_memory k e n a b h = record {
@@ -84,7 +83,7 @@ refused_memory k e n a b h = record {
   end = λ q. let room = is_end_room (plan_of k) k.core.state e n q in absurd (omega (arith, room, h));
 }
 
--- the same of the fields of a core with its journal
+-- the same for the fields of a core with its journal
 module _ (a : Inside) (holds : Holds a) (e : Event) (runs : ℕ) (is : runs ≡ runs_after (seen a) e) (free : refusal (plan_of (seen a)) a.core.state e ≡ None) where
   len : vec_len a.journal ≡ length a.journal.items
   len = a.journal.ok.0

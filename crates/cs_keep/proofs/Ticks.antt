@@ -56,7 +56,6 @@ module _ (p : Plan) where
       go true false e false = skip_now m s
       go false b e c = come_now m s
 
-  -- a minute that is later brings an event at least
   tick_some : (s : State) (m : ℕ) → s.now < m → 0 < length (tick_events m p s)
   tick_some s m l = go s.up (m == s.now) refl (m == s.now + 1)
     where

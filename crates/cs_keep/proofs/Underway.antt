@@ -10,7 +10,6 @@ use Rattle.cs_keep.specs.declared.tick.TickFault.{TickFault}
 use Rattle.cs_keep.proofs.Choosing.{chosen_some}
 use Rattle.cs_keep.proofs.Making.{by_append, short_longer, short_behind}
 
--- the events that are chosen from a keep on
 abbrev pub ahead : Kind → Keeping × Place → List Event
 ahead k t = choosing k (plan_of t.0) t.0.core.state
 

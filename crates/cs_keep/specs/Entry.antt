@@ -10,7 +10,6 @@ use Rattle.cs_keep.specs.declared.entry.EventKind.TheVariants as kinds
 use Rattle.cs_keep.specs.declared.entry.Told.{Told}
 use Rattle.cs_keep.specs.declared.entry.Told.TheVariants as answers
 
--- by its kind, job and minute
 abbrev pub event_of : EventKind → ℕ → ℕ → Event
 event_of kinds.Minute job at = Minute at
 event_of kinds.Begin job at = Begin job
@@ -20,7 +19,7 @@ event_of kinds.End job at = End (run_of job at)
 event_of kinds.Down job at = Down
 event_of kinds.Up job at = Up at
 
--- by its kind, and the job and the minute of the run that has started
+-- the job and the minute are those of a run that started
 abbrev pub reply_of : Told → ℕ → ℕ → Reply
 reply_of answers.Clock job at = replies.Clock
 reply_of answers.Started job at = replies.Started (run_of job at)

@@ -6,7 +6,7 @@ use Rattle.cs_history.specs.Step.{State, refusal}
 use Rattle.cs_history.specs.declared.event.Event.TheVariants.{Got}
 use Rattle.cs_history.specs.declared.run.Run.{Run}
 
--- the run that comes first of these two, by job, then minute
+-- the first of these two runs by job, then minute
 abbrev pub earlier : Option Run → Run → Run
 earlier None w = w
 earlier (Some b) w = if is_before w b then w else b
@@ -15,10 +15,9 @@ earlier (Some b) w = if is_before w b then w else b
 abbrev pub may_get : Plan → State → Run → Bool
 may_get p s w = is_none (refusal p s (Got w.job w.at))
 
--- with one run more
 abbrev pub with_run : (Run → Bool) → Option Run → Run → Option Run
 with_run t best w = if t w then Some (earlier best w) else best
 
--- the run that comes first of those that may
+-- the first run that may
 abbrev pub first_to_get : Plan → State → Option Run
 first_to_get p s = fold (with_run (may_get p s)) None s.waiting

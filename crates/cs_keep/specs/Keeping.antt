@@ -21,13 +21,11 @@ pub record Keeping : Type 0 where
   pub journal : List (Event × Reply)
   -- how many events were accepted since the keep was opened
   pub total : ℕ
-  -- the core's plan and state
   pub core : Standing
 
 abbrev pub plan_of : Keeping → Plan
 plan_of k = as_plan k.core.plan
 
--- a keep of this plan, just opened from this start
 abbrev pub opened : Declared → Start → Keeping
 opened d s = record {
   base = s;
@@ -36,32 +34,32 @@ opened d s = record {
   core = record { plan = d; state = state_of (as_plan d) (From s) };
 }
 
--- the journal is a legal history of the plan, with its replies, that ends in the core's state
+-- the journal is a legal history of the plan with its replies, and ends in the core's state
 abbrev pub IsKept : Keeping → Type 0
 IsKept k = IsJournal (plan_of k) k.base k.journal k.core.state
 
--- where each run has ended within its declared time, no two runs of an exclusive group ran at once,
--- two that both share its lock excepted, the capacity was never exceeded, and no due minute of a
--- skip job was skipped
+-- if each run has ended within its declared time, no two runs of an exclusive group ran at once
+-- unless both share its lock, the capacity was never exceeded, and no due minute of a skip job was
+-- skipped
 abbrev pub IsSafeInTime : Keeping → Type 0
 IsSafeInTime k =
     IsInTime (plan_of k) (told k.base k.journal) → IsSafe (plan_of k) (told k.base k.journal)
 
--- and at most as many runs run as the capacity
+-- and no more runs are running than the capacity
 abbrev pub IsFewInTime : Keeping → Type 0
 IsFewInTime k = IsInTime (plan_of k) (told k.base k.journal)
     → length k.core.state.running ≤ (plan_of k).capacity
 
--- how many runs run after an event, where it is accepted
+-- how many runs are running after the event, if it is accepted
 abbrev pub runs_after : Keeping → Event → ℕ
 runs_after k e = length (after (plan_of k) k.core.state e).running
 
--- no room in the journal, or in a total of 64 bits, for the event and the ends of what runs then
+-- no room, in the journal or in a total of 64 bits, for the event and the ends of what runs then
 abbrev pub is_full : Keeping → Event → Bool
 is_full k e = nat_lt MAX_ENTRIES (length k.journal + 1 + runs_after k e)
     || nat_lt (2 ^ 64 - 1) (k.total + 1 + runs_after k e)
 
--- the core's refusal, and after it that of a full journal
+-- the core's refusal comes before that of a full journal
 abbrev pub or_full : Option Refusal → Bool → Option Refusal
 or_full (Some r) full = Some r
 or_full None full = if full then Some HistoryFull else None
@@ -79,16 +77,15 @@ is_end (End r) = true
 is_end Down = false
 is_end (Up t) = false
 
--- Why an event was refused: the first refusal, else out of memory. Only the core refuses an end.
+-- why an event was refused: the first refusal, else out of memory; only the core refuses an end
 pub record IsRefused (k : Keeping) (e : Event) (f : Refusal) : Type 0 where
   pub first : (refusal_in k e ≡ Some f) ⊎ ((refusal_in k e ≡ None) × (f ≡ OutOfMemory))
   pub end : is_end e ≡ true → refusal (plan_of k) k.core.state e ≡ Some f
 
--- the reply of the core
 abbrev pub reply_in : Keeping → Event → Reply
 reply_in k e = reply (plan_of k) k.core.state e
 
--- the core takes the event, which is added to the journal with its reply and to the total
+-- the core takes the event; the journal gets it with its reply, and the total counts it
 abbrev pub with_event : Keeping → Event → Keeping
 with_event k e = record k {
   journal = k.journal ++ (e, reply_in k e) ∷ [];
@@ -103,7 +100,6 @@ pub record IsIdle (s : State) : Type 0 where
   pub running : s.running ≡ []
   pub pass : s.pass ≡ None
 
--- the present minute, up or down, and the stamps
 abbrev pub start_from : State → Start
 start_from s = record { now = s.now; up = s.up; stamps = s.stamps }
 

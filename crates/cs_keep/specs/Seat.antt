@@ -16,11 +16,11 @@ saturated n = min n (2 ^ 64 - 1)
 abbrev pub all_parts : ℕ → Place
 all_parts n = record { parts = n; share = 0; seen = 0 }
 
--- one step more in the share, and this total was seen
+-- one more step, which made this total
 abbrev pub counted : Place → ℕ → Place
 counted s total = record s { share = s.share + 1; seen = total }
 
--- one seat became two: the other has one part, no share, and the total seen; the rest stays
+-- one seat becomes two: the other has one part, no share, and the total seen
 abbrev pub IsSplit : Place → Place → Place → Type 0
 IsSplit old other left = (other ≡ record { parts = 1; share = 0; seen = old.seen })
     × (left ≡ record old { parts = old.parts - 1 })

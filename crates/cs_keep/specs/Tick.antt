@@ -16,8 +16,8 @@ use Rattle.cs_keep.specs.declared.tick.Kind.TheVariants.{Settling, Catching}
 use Rattle.cs_keep.specs.declared.tick.TickFault.{TickFault}
 use Rattle.cs_keep.specs.declared.tick.TickFault.TheVariants.{ClockBack, HistoryFull, OutOfMemory}
 
--- whether the event is of the kind: to settle, a job that is due begins, or a waiting run gets its
--- lock; to catch up, an anacron job starts
+-- to settle, a job that is due begins, or a waiting run gets its lock; to catch up, an anacron job
+-- starts
 abbrev pub is_of : Kind → Event → Bool
 is_of Settling (Minute t) = false
 is_of Settling (Begin j) = true
@@ -38,18 +38,17 @@ abbrev pub first : List Event → Option Event
 first [] = None
 first (e ∷ es) = Some e
 
--- the first choice of a kind
 abbrev pub next_of : Kind → Plan → State → Option Event
 next_of k p s = first (filter (is_of k) (choices p s))
 
--- the first choice of the kind, and again from there on, until there is none or so many were made
+-- the first choice of the kind, and so on from there, until there is none or so many were made
 abbrev pub chosen : Kind → Plan → ℕ → State → List Event
 chosen k p zero s = []
 chosen k p (suc n) s =
     elim (next_of k p s) [ None ↦ [] | Some e ↦ e ∷ chosen k p n (after p s e) ]
 
--- So many are enough: a Begin takes a job from those that are pending, and may add a run to those
--- that wait; a Got takes one of these; a Catch takes a job from those that the pass has left.
+-- so many are enough: a Begin takes a pending job and may add a waiting run, a Got takes a waiting
+-- run, and a Catch takes a job that is left to the pass
 abbrev pub most : Kind → State → ℕ
 most Settling s = 2 * length s.pending + length s.waiting
 most Catching s = length (jobs_left s.pass)
@@ -88,9 +87,9 @@ moving_on m p s = then_from p s (choosing Settling p s) (advancing m p)
 abbrev pub skipping : ℕ → Plan → State → List Event
 skipping m p s = then_from p s (Down ∷ []) (coming m p)
 
--- The events for a minute that is not below the present one. A core that is down comes up, and
--- catches up. One that is up settles and catches up; in the minute after the present one it
--- settles, moves on, and does so again; past that it goes down and comes up.
+-- The events for a minute that isn't before the present one. A core that is down comes up and
+-- catches up. One that is up settles and catches up; before the next minute it settles, too; to a
+-- later minute it goes down and comes up.
 abbrev pub tick_events : ℕ → Plan → State → List Event
 tick_events m p s =
     if s.up then (if m == s.now then settling_catching p s
@@ -116,7 +115,7 @@ IsFault k es ClockBack = ⊥
 IsFault k es HistoryFull = IsFullAt k es
 IsFault k es OutOfMemory = ⊤
 
--- of these events the first were made, and then this fault was met
+-- the first of these events were made, and then this fault was met
 pub record IsCutShort (t : Keeping × Place) (es : List Event) (f : TickFault) (u : Keeping × Place)
     : Type 0 where
   pub made : List Event
@@ -125,7 +124,7 @@ pub record IsCutShort (t : Keeping × Place) (es : List Event) (f : TickFault) (
   pub left : u ≡ stepped_by t made
   pub why : IsFault (stepped_by t made).0 rest f
 
--- these events were made, each as a step is, or the first of them
+-- these events were made, each as a step, or the first of them were
 abbrev pub IsMade : Keeping × Place → List Event → Result (Unit {0}) TickFault → Keeping × Place
     → Type 0
 IsMade t es (Ok v) u = u ≡ stepped_by t es
@@ -136,11 +135,10 @@ abbrev pub Makes : (Plan → State → List Event) → Keeping × Place → Resu
     → Keeping × Place → Type 0
 Makes events t r u = IsMade t (events (plan_of t.0) t.0.core.state) r u
 
--- the present minute is another than the last, or the new one is below it
+-- the present minute isn't `last`, or the new one is before `last`
 abbrev pub IsClockBack : State → ℕ → ℕ → Type 0
 IsClockBack s last m = (s.now ≢ last) ⊎ (m < last)
 
--- neither is so
 abbrev pub IsForward : State → ℕ → ℕ → Type 0
 IsForward s last m = (s.now ≡ last) × (last ≤ m)
 

@@ -5,7 +5,6 @@ ghost use Rattle.cs_keep.specs.Entry.{event_of, reply_of};
 use cs_history::{Event, Reply, Run};
 use std::marker::Model;
 
-/// Which event it is.
 #[derive(Clone, Copy, PartialEq, Eq)]
 pub(crate) enum EventKind {
     Minute,
@@ -17,7 +16,6 @@ pub(crate) enum EventKind {
     Up,
 }
 
-/// Which reply it had.
 #[derive(Clone, Copy, PartialEq, Eq)]
 pub(crate) enum Told {
     Clock,
@@ -30,13 +28,13 @@ pub(crate) enum Told {
     Came,
 }
 
-/// An accepted event with its reply, in half of the bytes that the two take otherwise.
+/// An accepted event with its reply, in half the bytes of the two.
 #[derive(Drop)]
 pub struct Entry {
-    // the minute of the event, and that of the run that it started, 0 if there is none
+    // the minute of the event, and that of the run that it started; 0 if there is none
     at: u64,
     due: u64,
-    // the job of the event, and that of the run, 0 if there is none
+    // the job of the event, and that of the run; 0 if there is none
     job: u16,
     starts: u16,
     kind: EventKind,
@@ -53,7 +51,6 @@ impl Model for Entry {
     ghost view = { λ a. (event_of a.kind a.job a.at, reply_of a.told a.starts a.due) };
 }
 
-/// The kind of an event, its job and its minute.
 fn parts_of(event: Event) -> (EventKind, u16, u64)
     ensures { event_of result.0 result.1 result.2 ≡ event }
 {
@@ -68,7 +65,6 @@ fn parts_of(event: Event) -> (EventKind, u16, u64)
     }
 }
 
-/// The kind of a reply, and the job and the minute of the run that started.
 fn answer_of(reply: Reply) -> (Told, u16, u64)
     ensures { reply_of result.0 result.1 result.2 ≡ reply }
 {

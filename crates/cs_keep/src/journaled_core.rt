@@ -14,8 +14,7 @@ use cs_history::{Event, Refusal, Reply, Start, copy_stamps};
 use std::alloc::{AllocError, Global};
 use std::marker::Model;
 
-/// An event core of a checked plan with the journal of its events since a base. Replaying the
-/// journal from the base gives the core.
+/// An event core of a checked plan, and the journal that gives it when replayed from the base.
 #[derive(Drop)]
 pub(crate) struct JournaledCore {
     core: Core,
@@ -41,7 +40,6 @@ impl Model for JournaledCore {
     ghost invariant = { Holds };
 }
 
-/// A copy of the core's stamps.
 fn stamps_of(core: &Core) -> ArrayVec<Option<Day>, 64>
     requires { length core.now.state.stamps ≤ 64 }
     ensures { result.items ≡ core.now.state.stamps }
@@ -50,7 +48,7 @@ fn stamps_of(core: &Core) -> ArrayVec<Option<Day>, 64>
 }
 
 impl JournaledCore {
-    /// An empty journal of a checked plan from this start. The only error is out of memory.
+    /// An empty journal from this start.
     pub(crate) fn open(
         alloc: Global,
         checked: &Checked,
@@ -78,7 +76,6 @@ impl JournaledCore {
         self.journal.as_slice()
     }
 
-    /// The start from which the journal goes on.
     pub(crate) fn base(&self) -> &Start
         ensures { result.now ≡ self.now.base }
     {
@@ -101,7 +98,6 @@ impl JournaledCore {
         &self.core
     }
 
-    /// Steps the core, and writes the event into the journal.
     pub(crate) fn step(&mut self, event: Event) -> Result<Reply, Refusal>
         ensures legal { OnOk result (refusal_in self.old event ≡ None) }
         ensures reply { IfOk result (λ r. r ≡ reply_in self.old event) }
@@ -124,8 +120,7 @@ impl JournaledCore {
         Ok(reply)
     }
 
-    /// Starts a new journal at the present state, if nothing is pending, waits or runs and no pass
-    /// is open.
+    /// Starts a new journal at the present state; false if that isn't idle.
     pub(crate) fn cut(&mut self) -> bool
         ensures idle { IsTrue result ↔ IsIdle self.old.core.state }
         ensures cut { self.new ≡ (if result then cut_here self.old else self.old) }
@@ -140,7 +135,6 @@ impl JournaledCore {
         true
     }
 
-    /// Whether nothing is pending, waits or runs and no pass is open.
     fn is_idle(&self) -> bool
         ensures { IsTrue result ↔ IsIdle self.now.core.state }
     {

@@ -37,8 +37,8 @@ impl<L: Ledger> Model for Keep<L> {
 }
 
 impl<L: Ledger> Keep<L> {
-    /// Opens a keep of a checked plan, which it copies, at this start, with an empty journal, and a
-    /// seat with every part of the blank: `parts` of them. The only error is out of memory.
+    /// Opens a keep of a checked plan, which it copies, with an empty journal, and a seat with
+    /// every part of the blank.
     pub fn open(
         alloc: Global,
         blank: Blank,
@@ -67,11 +67,10 @@ impl<L: Ledger> Keep<L> {
         ))
     }
 
-    /// Steps the core, writes the event and its reply into the journal, and counts it in the total
-    /// and in the seat's share.
+    /// Steps the core, writes the event and its reply into the journal, and counts it.
     ///
     /// err: the core's refusals first, then `HistoryFull`, then `OutOfMemory`; a refused event
-    /// changes nothing. There is always room for the end of each running run, so only the core
+    /// changes nothing. The journal keeps room for the end of each running run, so only the core
     /// refuses an end.
     pub fn step(&mut self, seat: &mut Seat<L>, event: Event) -> Result<Reply, Refusal>
         ensures legal { OnOk result (refusal_in self.old event ≡ None) }
@@ -80,8 +79,8 @@ impl<L: Ledger> Keep<L> {
         ensures seat { OnOk result (seat.new ≡ counted seat.old self.new.total) }
         ensures refused { IfErr result (IsRefused self.old event) }
         ensures same { OnErr result ((self.new ≡ self.old) × (seat.new ≡ seat.old)) }
-        // If each run has ended within its declared time, the journal is safe, and at most as many
-        // runs as the capacity run.
+        // If each run has ended within its declared time, the journal is safe, and no more runs are
+        // running than the capacity.
         ensures safe { IsSafeInTime self.new }
         ensures few { IsFewInTime self.new }
     {
@@ -105,8 +104,8 @@ impl<L: Ledger> Keep<L> {
         Ok(reply)
     }
 
-    /// Starts a new journal at the present state, if nothing is pending, waits or runs and no pass
-    /// is open; else returns false. The total stays.
+    /// Starts a new journal at the present state; false if something is pending, waits or runs, or
+    /// a pass is open. The total stays.
     pub fn cut(&mut self) -> bool
         ensures idle { IsTrue result ↔ IsIdle self.old.core.state }
         ensures cut { self.new ≡ (if result then cut_here self.old else self.old) }
@@ -155,16 +154,15 @@ impl<L: Ledger> Keep<L> {
         ensures value { result.now ≡ self.now.core }
         // It is in the state in which the journal ends.
         ensures kept { IsKept self.now }
-        // If each run has ended within its declared time, the journal is safe, and at most as many
-        // runs as the capacity run.
+        // If each run has ended within its declared time, the journal is safe, and no more runs are
+        // running than the capacity.
         ensures safe { IsSafeInTime self.now }
         ensures few { IsFewInTime self.now }
     {
         self.journaled.core()
     }
 
-    /// Closes the keep: returns its journal without its book, with `checked`, the very value passed
-    /// in.
+    /// Closes the keep: returns its journal and core with `checked`, the very value passed in.
     pub fn close(self, checked: Checked) -> Kept
         requires { plan_in checked ≡ self.core.plan }
         ensures checked { checked_in result ≡ checked }

@@ -8,14 +8,14 @@ ghost use Rattle.cs_keep.specs.Keeping.{IsFewInTime, IsKept, IsSafeInTime, Keepi
 ghost use Rattle.cs_keep.specs.Tick.{ChoicesRunOut};
 
 /// Lemma. A tick makes the first choice of a kind (begins and lock grants, or catch-ups) until none
-/// is left: the most that it makes are enough.
+/// is left: its limit on their number is high enough.
 pub fn choices_run_out()
     ensures { ChoicesRunOut }
 {}
 
-/// Lemma. Where each run of a kept journal has ended within its declared time, no two of the runs
-/// that run now belong to one exclusive group, two that share its lock excepted, and together they
-/// weigh at most the capacity, and are no more.
+/// Lemma. If each run of a kept journal has ended within its declared time, no two running runs
+/// belong to one exclusive group unless both share its lock; they weigh at most the capacity
+/// together, and are no more than it.
 #[tactic(auto, using(crate::proofs::Promises::apart, crate::proofs::Promises::light))]
 pub fn what_a_keep_promises()
     ensures apart { (k : Keeping) → IsKept k → IsSafeInTime k

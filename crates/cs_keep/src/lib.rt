@@ -1,4 +1,4 @@
-//! The keep: an event core with the journal of its events, and seats that share the count of them.
+//! Keeps an event core with the journal of its events, and seats that share the count of them.
 #![tactic(auto)]
 
 mod entry;

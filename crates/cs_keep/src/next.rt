@@ -1,5 +1,5 @@
-//! The first choice of a kind, found without a list of all: so that a minute without choices costs
-//! the same however many runs wait.
+//! The first choice of a kind, without a list of all choices: so a minute without choices costs the
+//! same however many runs wait.
 ghost use Rattle.std.specs.Prelude.{◌≡◌, IsTrue, None, true};
 ghost use Rattle.cs_plan.specs.Plan.{as_plan};
 ghost use Rattle.cs_history.specs.Step.{is_settled};
@@ -11,7 +11,6 @@ ghost use Rattle.cs_keep.specs.declared.tick.Kind.TheVariants.{Catching, Settlin
 use cs_core::{Core, is_before};
 use cs_history::{Event, Run};
 
-/// The first of these two runs.
 fn earlier(best: Option<Run>, run: Run) -> Run
     ensures { result ≡ earlier best run }
 {
@@ -21,7 +20,6 @@ fn earlier(best: Option<Run>, run: Run) -> Run
     }
 }
 
-/// Whether the run may get the lock that it waits for.
 fn may_get(core: &Core, run: Run) -> bool
     ensures { result ≡ may_get (as_plan core.now.plan) core.now.state run }
 {
@@ -31,7 +29,7 @@ fn may_get(core: &Core, run: Run) -> bool
     }
 }
 
-/// The first run, by job, then minute, that may get the lock that it waits for.
+/// The first by job, then minute.
 fn first_to_get(core: &Core) -> Option<Run>
     ensures { result ≡ first_to_get (as_plan core.now.plan) core.now.state }
 {
@@ -44,7 +42,7 @@ fn first_to_get(core: &Core) -> Option<Run>
     best
 }
 
-/// Whether the clock may go on: nothing is due and no waiting run may get its lock.
+/// Whether nothing is due, and no waiting run may get its lock.
 fn goes_on(core: &Core) -> bool
     ensures { IsTrue result → is_settled (as_plan core.now.plan) core.now.state ≡ true }
 {

@@ -1,4 +1,4 @@
-//! Reading a closed keep.
+//! Reads a closed keep.
 ghost use Rattle.std.specs.Prelude.{◌≡◌};
 ghost use Rattle.cs_check.specs.Checked.{plan_in};
 ghost use Rattle.cs_keep.specs.Closed.{checked_in, keeping_in};
@@ -39,8 +39,8 @@ impl Kept {
         ensures value { result.now ≡ (keeping_in self.now).core }
         // It is in the state in which the journal ends.
         ensures kept { IsKept (keeping_in self.now) }
-        // If each run has ended within its declared time, the journal is safe, and at most as many
-        // runs as the capacity run.
+        // If each run has ended within its declared time, the journal is safe, and no more runs are
+        // running than the capacity.
         ensures safe { IsSafeInTime (keeping_in self.now) }
         ensures few { IsFewInTime (keeping_in self.now) }
     {

@@ -37,7 +37,7 @@ impl<L: Ledger> Seat<L> {
         self.parts
     }
 
-    /// Returns how many steps were made through it: exact below 2^64 - 1, and then that number.
+    /// Returns how many steps were made through it; 2^64 - 1 for that many or more.
     pub fn share(&self) -> u64
         ensures { result ≡ saturated self.now.share }
     {
@@ -51,7 +51,7 @@ impl<L: Ledger> Seat<L> {
         self.seen
     }
 
-    /// Moves one part to a new seat, which has made no step; None if this one has only one.
+    /// Moves one part to a new seat without a share; `None` if this one has only one part.
     pub fn split(&mut self) -> Option<Seat<L>>
         ensures { MatchOption result
             ((self.old.parts ≡ 1) × (self.new ≡ self.old))

@@ -24,7 +24,7 @@ pub enum TickFault {
     OutOfMemory,
 }
 
-/// A kind of events that are chosen one after another.
+/// Events that are chosen one after another.
 #[derive(Clone, Copy)]
 pub(crate) enum Kind {
     /// Begin and Got.
@@ -35,9 +35,9 @@ pub(crate) enum Kind {
 
 impl<L: Ledger> Keep<L> {
     /// Goes on to a minute. A core that is down comes up in it. One that is up settles, moves on to
-    /// the next minute and settles again; over more minutes it goes down and comes up. In the end
-    /// each catch-up run that may start does. To settle is to make the first Begin or Got of the
-    /// choices until there is none.
+    /// the next minute and settles again; to a later minute it goes down and comes up. In the end
+    /// each catch-up run that may start does. Settling makes the first Begin or Got of the choices
+    /// until there is none.
     ///
     /// `last` is the present minute. err: `ClockBack` changes nothing; if the journal is full or
     /// memory runs out, the events made stay.
@@ -75,7 +75,6 @@ impl<L: Ledger> Keep<L> {
         Ok(())
     }
 
-    /// Goes on to a minute not before the present one.
     fn go_on(&mut self, seat: &mut Seat<L>, minute: Minute) -> Result<(), TickFault>
         requires { self.old.core.state.now ≤ minute }
         ensures { Makes (tick_events minute) (self.old, seat.old) result (self.new, seat.new) }
@@ -95,7 +94,6 @@ impl<L: Ledger> Keep<L> {
         self.skip(seat, number)
     }
 
-    /// Goes down and comes up in a later minute.
     fn skip(&mut self, seat: &mut Seat<L>, minute: u64) -> Result<(), TickFault>
         requires up { self.old.core.state.up ≡ true }
         requires civil { IsCivil minute }
@@ -108,7 +106,6 @@ impl<L: Ledger> Keep<L> {
         self.come(seat, minute)
     }
 
-    /// Comes up, and catches up.
     fn come(&mut self, seat: &mut Seat<L>, minute: u64) -> Result<(), TickFault>
         requires down { self.old.core.state.up ≡ false }
         requires civil { IsCivil minute }
@@ -121,7 +118,6 @@ impl<L: Ledger> Keep<L> {
         self.choose(seat, Kind::Catching)
     }
 
-    /// Settles, and goes on to the next minute.
     fn move_on(&mut self, seat: &mut Seat<L>, minute: u64) -> Result<(), TickFault>
         requires up { self.old.core.state.up ≡ true }
         requires civil { IsCivil minute }
@@ -135,7 +131,6 @@ impl<L: Ledger> Keep<L> {
         self.advance(seat, minute)
     }
 
-    /// Goes on to the next minute, settles and catches up.
     fn advance(&mut self, seat: &mut Seat<L>, minute: u64) -> Result<(), TickFault>
         requires { refusal (plan_of self.old) self.old.core.state (event.Minute minute) ≡ None }
         ensures { Makes (advancing minute) (self.old, seat.old) result (self.new, seat.new) }
@@ -169,7 +164,6 @@ impl<L: Ledger> Keep<L> {
         }
     }
 
-    /// The first choice of the kind.
     fn next(&self, kind: Kind) -> Option<Event>
         ensures { result ≡ next_of kind (plan_of self.now) self.now.core.state }
     {

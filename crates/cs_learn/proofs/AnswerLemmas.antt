@@ -1,4 +1,3 @@
--- What is answered to `learn`.
 use Rattle.std.proofs.Common.{◌≡◌, ◌⊎◌, ℕ, true, List, Option, IfSome, refl, subst, sym}
 use Rattle.std.specs.Prelude.{Contains}
 use Rattle.clap.specs.Words.{Text}
@@ -10,7 +9,6 @@ use Rattle.cs_files.specs.Trouble.{IsHonestOf, IsUnread, TellsPath, Trouble, tro
 use Rattle.cs_files.specs.declared.fault.Fault.{Fault}
 use Rattle.cs_learn.specs.Answer.{IsUnreadLog, trouble_of}
 
--- a log that could not be read, or not to its end
 pub log_unread : (files : List ℕ → Option (List ℕ)) (logs : List Text) (path : Text) (fault : ReadFault) (before after : Failed) (e : Fault)
     → trouble e ≡ trouble_of path fault → Contains logs path → (IsCannotRead fault → (after path ≡ true) ⊎ ((after ≡ before) × IsTooLong path files)) → IfSome (trouble e) (λ t. IsUnreadLog files logs before after t)
 log_unread files logs path (CannotRead reason) before after e is named long =
@@ -18,7 +16,6 @@ log_unread files logs path (CannotRead reason) before after e is named long =
 log_unread files logs path OutOfMemory before after e is named long =
     subst (λ (o : Option Trouble). IfSome o (λ t. IsUnreadLog files logs before after t)) (sym is) tt
 
--- which is told
 pub log_honest : (path : Text) (fault : ReadFault) (failed : Failed) (reads : Reads) (e : Fault)
     → trouble e ≡ trouble_of path fault → (IsCannotRead fault → IsUnread path failed reads) → IsHonestOf failed reads e
 log_honest path (CannotRead reason) failed reads e is unread =

@@ -1,4 +1,4 @@
--- The longest time of a job with a run, and without one.
+-- a longest time with and without a run that ended
 use Rattle.std.proofs.Common.{◌≡◌, ℕ, ◌<◌, Option, None, Some, refl, subst}
 use Rattle.std.specs.Prelude.{IfSome, IsNone, IsSomeAnd}
 use Rattle.cs_learn.specs.Learned.{IsMaxOf, seconds_since}

@@ -1,4 +1,3 @@
--- Logs at paths.
 use Rattle.std.proofs.Common.{◌≡◌, [], ◌∷◌, ℕ, List, Bor, Result, Ok, Err, map, subst, sym}
 use Rattle.std.specs.Prelude.{Contains, IfErr}
 use Rattle.std.proofs.lemmas.List.Elements.{Contains-append_right}
@@ -9,7 +8,6 @@ use Rattle.cs_learn.specs.declared.reading.Unread.{Unread}
 abbrev texts : List (Bor (List ℕ)) → List (List ℕ)
 texts paths = map (λ (path : Bor (List ℕ)). path.now) paths
 
--- the first of some paths is read, or one of the others
 pub first_turn : (paths rest : List (Bor (List ℕ))) (p : Bor (List ℕ)) (old new : Reads) → paths ≡ p ∷ rest → IsReadAlone p.now old new → AreReadInTurn (texts paths) old new
 first_turn paths rest p old new is alone = subst (λ (ps : List (Bor (List ℕ))). AreReadInTurn (texts ps) old new) (sym is) (new, alone, none_read (texts rest) new)
 

@@ -1,4 +1,4 @@
--- What is answered to `learn`.
+-- The answer to `learn`.
 use Rattle.std.specs.Prelude.{◌≡◌, ◌⊎◌, ◌++◌, ℕ, true, List, [], codes, Contains, Option, Some, None}
 use Rattle.std.specs.Prelude.{Result, Ok, Err}
 use Rattle.clap.specs.Words.{Text}
@@ -17,28 +17,26 @@ use Rattle.cs_learn.specs.Max.{factor_in}
 use Rattle.cs_learn.specs.declared.answer.Learnable.{Learnable}
 use Rattle.cs_learn.specs.declared.log.Log.{Log}
 
--- what `learn` reads: the tables, and then the logs
+-- the tables, and then the logs
 abbrev pub learned_paths : AskedLearn → List Text
 learned_paths a = table_paths a.table a.anacrontab ++ a.logs
 
--- the path of a log could not be read, or took as many reads as it may
+-- one of the logs can't be read, or not to its end
 abbrev pub IsUnreadLog : (List ℕ → Option (List ℕ)) → List Text → Failed → Failed → Trouble → Type 0
 IsUnreadLog files logs before after t = (path : Text) × Contains logs path × TellsPath path t
     × ((after path ≡ true) ⊎ ((after ≡ before) × IsTooLong path files))
 
--- the logs are read one after the other to their ends
+-- no log failed to be read, or one did
 abbrev pub ReadsLogs : (List ℕ → Option (List ℕ)) → List Text → Failed → Failed
     → Result Log Trouble → Type 0
 ReadsLogs files logs before after (Ok log) = after ≡ before
 ReadsLogs files logs before after (Err t) = IsUnreadLog files logs before after t
 
--- a factor, the tables and what logs tell of the jobs
 abbrev pub AreLearnable : ℕ → Tables → Log → Option Learnable → Type 0
 AreLearnable factor tables log found =
     found ≡ Some (record { factor = factor; tables = tables; log = log })
 
--- the tables and then the logs, by the factor that a text is: one that is none ends the call before a
--- file is read
+-- the tables and then the logs; without a factor the call ends before a file is read
 abbrev pub FindsBy : Option ℕ → AskedLearn → (List ℕ → Option (List ℕ)) → List ℕ → Failed → Failed
     → Result (Option Learnable) Trouble → Type 0
 FindsBy None a files w before after r = (w ≡ []) × (after ≡ before) × (r ≡ Ok None)
@@ -50,7 +48,7 @@ abbrev pub FindsLearnable : AskedLearn → (List ℕ → Option (List ℕ)) → 
     → Result (Option Learnable) Trouble → Type 0
 FindsLearnable a = FindsBy (factor_in a.factor) a
 
--- what is answered where this text is no factor
+-- the answer to a word that is no factor
 abbrev pub no_factor : Text → Ending
 no_factor text = record {
   status = 4;
@@ -59,8 +57,7 @@ no_factor text = record {
       ++ codes "\n";
 }
 
--- what is answered of it: longest times that what is known of the jobs gives are printed, or that there
--- is no such text is told, with status 2; or that there is no factor
+-- the longest times that the logs give are printed, or none are, with status 2
 abbrev pub PrintsLearned : Text → Option Learnable → Ending → Type 0
 PrintsLearned factor None ending = ending ≡ no_factor factor
 PrintsLearned factor (Some x) ending =
@@ -68,12 +65,12 @@ PrintsLearned factor (Some x) ending =
     x.factor ending.out)
     ⊎ ((ending.status ≡ 2) × (ending.out ≡ []))
 
--- what is answered to `learn`: that, or the first fault of the files
+-- that answer, or the first fault of the files
 abbrev pub AnswersLearn : AskedLearn → (List ℕ → Option (List ℕ)) → List ℕ → Failed → Failed
     → Ending → Type 0
 AnswersLearn a files w = Answers (FindsLearnable a files w) (PrintsLearned a.factor)
 
--- why a log can't be read, unless it is want of memory
+-- a log that can't be read; none where memory ran out
 abbrev pub trouble_of : Text → ReadFault → Option Trouble
 trouble_of path (CannotRead reason) = Some (Unread path reason)
 trouble_of path OutOfMemory = None

@@ -11,13 +11,13 @@ use Rattle.cs_learn.specs.declared.evidence.Evidence.{Evidence}
 use Rattle.cs_learn.specs.declared.evidence.Ran.{Ran}
 use Rattle.cs_learn.specs.declared.job.Job.{Job}
 
--- the seconds since a start without an end, 0 where there is none
+-- 0 without a start without an end
 abbrev pub seconds_since : Option Ran → ℕ
 seconds_since None = 0
 seconds_since (Some run) = run.seconds
 
--- There is none without a run that has ended, and where 4,320 minutes aren't enough; else it is
--- that of the longest run, by a factor in hundredths.
+-- A job has no max without a run that ended, or where 4,320 minutes aren't enough. Else its max is
+-- the least number of minutes that is enough for the longest run.
 abbrev pub IsMaxOf : ℕ → Evidence → Option ℕ → Type 0
 IsMaxOf factor known (Some max) = IsSomeAnd known.longest
     (λ ran. IsMax ran.seconds (seconds_since known.longest_open) factor max)
@@ -25,16 +25,16 @@ IsMaxOf factor known None = IfSome known.longest (λ ran. (minutes : ℕ)
     → IsEnough ran.seconds (seconds_since known.longest_open) factor minutes
     → LONGEST_MAX < minutes)
 
--- a job is given its max, by its name
+-- a job's max is given, by its name
 abbrev pub Gives : ℕ → List Given → Job → Type 0
 Gives factor given job = IsMaxOf factor job.evidence (max_of given job.name)
 
--- each job is given its max, and each longest time is of a job of the tables
+-- each job's max is given, and all that is given is for jobs of the tables
 abbrev pub AreLearned : List CommandLine → List JobLine → List Job → ℕ → List Given → Type 0
 AreLearned lines others jobs factor given = All (Gives factor given) jobs
     × (list_all (λ g. has_job lines others g.name) given ≡ true)
 
--- The bytes are what is learned of these jobs, as they are read back.
+-- The bytes, read back, give each job of the logs its max.
 abbrev pub IsLearned : List CommandLine → List JobLine → List Job → ℕ → List ℕ → Type 0
 IsLearned lines others jobs factor bytes =
     (given : List Given) × (given_in bytes ≡ Some given) × AreLearned lines others jobs factor given

@@ -1,9 +1,9 @@
--- The max that evidence gives: the longest run times a factor, in whole minutes.
+-- The max of a job: its longest run times a factor, in whole minutes.
 use Rattle.std.specs.Prelude.{ℕ, ◌+◌, ◌*◌, ◌≤◌, ◌&&◌, ◌==◌, nat_le, ◌/◌, if◌then◌else◌, List, length, Option, Some, None}
 use Rattle.cs_table.specs.SettingReading.{◌>>=◌, quoted_at}
 use Rattle.cs_retrace.specs.Words.{number_of, if_so}
 
--- the digits behind the point, in hundredths: one or two
+-- one or two digits after the point, in hundredths
 unfoldable pub hundredths_in : List ℕ → Option ℕ
 hundredths_in text = do
   number ← number_of text
@@ -19,7 +19,7 @@ in_hundredths text (Some parts) = do
   hundredths ← hundredths_in parts.1
   Some (whole * 100 + hundredths)
 
--- from 1 to 10
+-- a factor from 1 to 10, in hundredths
 unfoldable pub factor_in : List ℕ → Option ℕ
 factor_in text = do
   factor ← in_hundredths text (quoted_at 46 text)
@@ -29,9 +29,8 @@ factor_in text = do
 abbrev pub least : ℕ → ℕ
 least seconds = seconds / 60 + 1
 
--- So many minutes are enough for the longest run, by a factor in hundredths, if they aren't less
--- than its time times the factor, nor than its whole minutes and one more; nor than the whole
--- minutes since a start without an end, and one more.
+-- So many minutes are enough for the longest run if they are at least its seconds times the factor,
+-- and more than its whole minutes and those since a start without an end.
 pub record IsEnough (longest since factor minutes : ℕ) : Type 0 where
   pub by_factor : longest * factor ≤ 6_000 * minutes
   pub whole : least longest ≤ minutes

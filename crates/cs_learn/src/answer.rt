@@ -19,7 +19,6 @@ use cs_files::{Fault, Response, Status, Tables, find_tables};
 use cs_io::{Inputs, Output, ReadFault};
 use std::alloc::{AllocError, Global};
 
-/// What is answered where the text is no factor.
 fn no_factor(alloc: Global, factor: &str) -> Result<Response, AllocError>
     ensures { IfOk result (λ r. r ≡ no_factor factor.now) }
 {
@@ -30,7 +29,6 @@ fn no_factor(alloc: Global, factor: &str) -> Result<Response, AllocError>
     Ok(Response::no_call(alloc, text))
 }
 
-/// Why a log can't be read.
 fn fault_of(unread: Unread<'_>) -> Fault<'_>
     ensures { trouble result ≡ trouble_of unread.entry.path.now unread.entry.fault }
 {
@@ -40,7 +38,7 @@ fn fault_of(unread: Unread<'_>) -> Fault<'_>
     }
 }
 
-/// What the logs at these paths tell of the jobs of the tables.
+/// What the logs say of the tables' jobs.
 fn logs_at<'a, I: Inputs>(
     alloc: Global,
     inputs: &mut I,
@@ -67,19 +65,19 @@ fn logs_at<'a, I: Inputs>(
     }
 }
 
-/// What the words and the files of `learn` give.
+/// The factor and the files of `learn`.
 #[derive(Drop)]
 pub struct Learnable {
-    /// What the longest times are multiplied by.
+    /// What the longest run is multiplied by.
     pub factor: Factor,
-    /// The tables.
+    /// The crontab and the anacrontab.
     pub tables: Tables,
-    /// What the logs tell of their jobs.
+    /// What the logs say of the tables' jobs.
     pub log: Log,
 }
 
-/// Reads the tables and then the logs, and writes to standard error what is to be warned of the tables.
-/// Nothing where the words give no factor.
+/// Reads the tables and then the logs, and writes warnings about the tables to standard error.
+/// None, before a file is read, where `--factor` is no factor.
 pub fn find_learnable<'a, I: Inputs, E: Output>(
     alloc: Global,
     inputs: &mut I,
@@ -110,7 +108,7 @@ pub fn find_learnable<'a, I: Inputs, E: Output>(
     }))
 }
 
-/// Answers `learn TABLE LOG.. [--anacrontab FILE] [--factor F]`. The only error is want of memory.
+/// Answers `learn TABLE LOG.. [--anacrontab FILE] [--factor F]`. The only error is out of memory.
 pub fn answer_learn(
     alloc: Global,
     factor: &str,

@@ -1,4 +1,4 @@
-//! When a run began, as a text.
+//! The beginning of a run, as a text.
 use cs_civil::{Day, Gregorian, Minute, date_text};
 use cs_retrace::Moment;
 use std::alloc::AllocError;
@@ -16,8 +16,8 @@ fn month_name(day: Day) -> &'static str {
     }
 }
 
-/// Adds a moment as logs write it: `Nov  7 09:17:01`, with a blank for a zero in front of the day of the
-/// month, or `2024-09-13 23:30:01 UTC` where the log tells the year. The only error is out of memory.
+/// Adds a moment as logs write it: `Nov  7 09:17:01`, or `2024-09-13 23:30:01 UTC` if the log has
+/// the year.
 pub(crate) fn push_moment(text: &mut Vec<u8>, at: Moment) -> Result<(), AllocError> {
     let (seconds, is_universal) = match at {
         Moment::OfYear(seconds) => (seconds, false),

@@ -1,7 +1,8 @@
 //! How long a run took.
 use cs_retrace::Moment;
 
-/// 1 February, 1 March and 1 December 2000, 00:00, in seconds since 1970.
+/// 1 February, 1 March and 1 December 2000, 00:00, in seconds since 1970. A moment without a year
+/// is in 2000.
 const FEBRUARY: u64 = 949_363_200;
 
 const MARCH: u64 = 951_868_800;
@@ -11,9 +12,9 @@ const DECEMBER: u64 = 975_628_800;
 /// The seconds of 366 days.
 const LEAP_YEAR: u64 = 31_622_400;
 
-/// The seconds from a run's beginning to its end: `None` where the clock went back, and where it doesn't
-/// tell the year and the run went on from February into March. Without a year, January comes after
-/// December, and nobody knows whether February had 29 days.
+/// The seconds from the beginning of a run to its end; none if the clock went back. Without a year,
+/// January follows December, and a run from February into March has no known length, as February
+/// may have 29 days.
 pub(crate) fn passed(begin: Moment, end: Moment) -> Option<u64> {
     match (begin, end) {
         (Moment::OfYear(begin), Moment::OfYear(end)) => {

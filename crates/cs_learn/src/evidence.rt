@@ -1,38 +1,37 @@
-//! What is known of a job's runs.
 use crate::duration::passed;
 use crate::tally::Tally;
 use cs_retrace::Moment;
 use std::alloc::{AllocError, Global};
 use std::collections::BTreeMap;
 
-/// A run that has ended, or of which no line of the logs tells the end.
+/// A run that has ended, or whose end no line of the logs gives.
 #[derive(Clone, Copy)]
 pub struct Ran {
     /// When it began.
     pub began: Moment,
-    /// How many seconds it took, or may have taken where no line tells its end.
+    /// How many seconds it took, or may have taken.
     pub seconds: u64,
-    /// Whether a line tells its end.
+    /// Whether a line gives its end.
     pub has_ended: bool,
 }
 
-/// What is known of a job's runs.
+/// What the logs say of a job's runs.
 #[derive(Drop)]
 pub struct Evidence {
-    /// How many runs took so many seconds; at 259,201, how many took more than three days.
+    /// How many runs took so many seconds; 259,201 stands for more than three days.
     counts: BTreeMap<u64, u64>,
-    /// How many have ended.
+    /// How many runs have ended.
     pub count: u64,
-    /// The first of the longest runs that have ended, if there is one.
+    /// The longest run that has ended; the first of several.
     pub longest: Option<Ran>,
     /// How many starts have no end.
     pub unended: u64,
-    /// The first of the starts without an end since which the longest time has passed, if there is one.
+    /// The start without an end that is longest ago; the first of several.
     pub longest_open: Option<Ran>,
 }
 
 impl Evidence {
-    /// What is known before any run, without allocating.
+    /// Nothing is known yet. Doesn't allocate.
     pub(crate) fn new(alloc: Global) -> Evidence {
         Evidence {
             counts: BTreeMap::new(alloc),
@@ -43,7 +42,7 @@ impl Evidence {
         }
     }
 
-    /// Takes one more run. The only error is out of memory.
+    /// Adds a run.
     pub(crate) fn add(&mut self, run: Ran) -> Result<(), AllocError> {
         if !run.has_ended {
             self.unended = self.unended.saturating_add(1);
@@ -58,8 +57,8 @@ impl Evidence {
         Ok(())
     }
 
-    /// The median of the runs in seconds: at least half of the runs took at most so long, and fewer than
-    /// half took less. 259,201 stands for more than three days, and `None` for no run.
+    /// The median of the runs in seconds: at least half of them took at most so long, and fewer
+    /// than half took less. 259,201 stands for more than three days.
     pub(crate) fn median(&self) -> Option<u64> {
         let mut seen = 0u64;
         for (seconds, count) in &self.counts {
@@ -83,7 +82,7 @@ impl Evidence {
     }
 }
 
-/// The longer of two runs: where both took as long, the first.
+/// The longer of two runs; the first if both took as long.
 fn longer(longest: Option<Ran>, run: Ran) -> Option<Ran> {
     match longest {
         Some(other) if other.seconds >= run.seconds => longest,
@@ -91,7 +90,7 @@ fn longer(longest: Option<Ran>, run: Ran) -> Option<Ran> {
     }
 }
 
-/// A run that has ended, if the clock tells how long it took; which is counted.
+/// A run that has ended, and is counted; none if the clock doesn't tell how long it took.
 pub(crate) fn ended(began: Moment, at: Moment, tally: &mut Tally) -> Option<Ran> {
     let Some(seconds) = passed(began, at) else {
         tally.unclear = tally.unclear.saturating_add(1);
@@ -105,8 +104,8 @@ pub(crate) fn ended(began: Moment, at: Moment, tally: &mut Tally) -> Option<Ran>
     })
 }
 
-/// A run that has no end: it took all the time up to a later moment, as far as anyone knows, and more
-/// than any job may have where the clock doesn't tell.
+/// A run without an end: it may have taken all the time up to a later moment. If the clock doesn't
+/// give that time, it is more than any job may take.
 pub(crate) fn without_end(began: Moment, later: Moment) -> Ran {
     Ran {
         began,

@@ -1,4 +1,4 @@
-//! The jobs of both tables, as logs name them, and what is known of their runs.
+//! The jobs of both tables as logs name them, and what logs say of their runs.
 use crate::evidence::{Evidence, Ran, ended, without_end};
 use crate::line::LogLine;
 use crate::logged_text::logged;
@@ -11,10 +11,9 @@ use cs_retrace::words::is_word;
 use cs_retrace::{JobName, Moment};
 use std::alloc::{AllocError, Global};
 
-/// How logs call the command of a crontab's line.
+/// How logs name the command of a crontab's line.
 #[derive(Drop)]
 struct Called {
-    /// Its user, where that is known.
     user: Option<Bytes>,
     /// Its command as Debian's cron logs it, as cronie does, and as this program's log lists it.
     debian: Bytes,
@@ -23,7 +22,7 @@ struct Called {
 }
 
 impl Called {
-    /// Whether cron's log calls it so, where its user isn't known by whatever user.
+    /// Whether cron's log names it so; an unknown user may be any.
     fn is(&self, user: &[u8], command: &[u8]) -> bool {
         let may_be = match &self.user {
             Some(own) => is_word(own.as_slice(), user),
@@ -35,23 +34,22 @@ impl Called {
     }
 }
 
-/// A job of a table, and what is known of its runs.
+/// A job of a table, and what the logs say of its runs.
 #[derive(Drop)]
 pub struct Job {
-    /// What names it.
+    /// Its line or its identifier.
     pub name: JobName,
-    /// How logs call it, if it is one of the crontab.
+    /// How logs name it; none for an anacron job.
     called: Option<Called>,
-    /// What is known of its runs.
+    /// What the logs say of its runs.
     pub evidence: Evidence,
-    /// How many runs of its line were by another table.
+    /// How many runs of its line belonged to another table.
     pub refused: u64,
-    /// Where anacron has started it and no line tells the end: when, and the number of that process.
+    /// A start by anacron without an end so far: when, and the number of its process.
     open: Option<(Moment, u64)>,
 }
 
 impl Job {
-    /// A job of which nothing is known.
     fn new(alloc: Global, name: JobName, called: Option<Called>) -> Job {
         Job {
             name,
@@ -62,7 +60,7 @@ impl Job {
         }
     }
 
-    /// The job of a line, whose user its place tells.
+    /// The job of a line, with the user of its place, if it was gathered.
     fn of_line(alloc: Global, places: &[Place], line: &Line) -> Result<Job, AllocError> {
         let mut shown = Vec::new(alloc);
         push_shown(&mut shown, line.command())?;
@@ -80,12 +78,11 @@ impl Job {
         Ok(Job::new(alloc, name, Some(called)))
     }
 
-    /// Whether it is one of the anacrontab.
     pub(crate) fn is_anacron(&self) -> bool {
         self.called.is_none()
     }
 
-    /// Whether cron's log can't tell this job from the other, so that both take each run.
+    /// Whether cron's log doesn't distinguish the jobs, so that both count each run.
     pub(crate) fn is_like(&self, other: &Job) -> bool {
         let (Some(own), Some(other)) = (&self.called, &other.called) else {
             return false;
@@ -98,8 +95,8 @@ impl Job {
         own.is(user, other.debian.as_slice())
     }
 
-    /// Takes a run of this line, if that is of the job: by the number of its line in this program's log,
-    /// and by its command where that lists the table; in cron's by its command and user.
+    /// Adds the run if it is the job's: in this program's log by the number of the line, and by the
+    /// command if the log lists the table; in cron's by command and user.
     fn take(&mut self, line: &LogLine, ran: Ran) -> Result<(), AllocError> {
         let Some(called) = &self.called else {
             return Ok(());
@@ -118,7 +115,7 @@ impl Job {
         Ok(())
     }
 
-    /// Takes a start by anacron: one before it has no end, since anacron runs a job once at a time.
+    /// Anacron starts. An open start has no end then, as anacron runs a job only once at a time.
     pub(crate) fn begin(&mut self, line: &LogLine, tally: &mut Tally) -> Result<(), AllocError> {
         self.close(line.at, tally)?;
         tally.begun = tally.begun.saturating_add(1);
@@ -126,7 +123,7 @@ impl Job {
         Ok(())
     }
 
-    /// Takes an end by anacron, of the start by the same process.
+    /// Anacron ends the start by the same process.
     pub(crate) fn end(&mut self, line: &LogLine, tally: &mut Tally) -> Result<(), AllocError> {
         let began = match self.open {
             Some((began, starter)) if starter == line.number => began,
@@ -142,7 +139,7 @@ impl Job {
         }
     }
 
-    /// Takes that no line tells the end of a start by anacron.
+    /// No line gives the end of an open start by anacron.
     pub(crate) fn close(&mut self, later: Moment, tally: &mut Tally) -> Result<(), AllocError> {
         let Some((began, _starter)) = self.open else {
             return Ok(());
@@ -153,7 +150,7 @@ impl Job {
     }
 }
 
-/// Has each job take a run of this line. The only error is out of memory.
+/// Lets each job count the run of this line.
 pub(crate) fn take_run(jobs: &mut Vec<Job>, line: &LogLine, ran: Ran) -> Result<(), AllocError> {
     for i in 0..jobs.len() {
         jobs[i].take(line, ran)?;
@@ -161,7 +158,7 @@ pub(crate) fn take_run(jobs: &mut Vec<Job>, line: &LogLine, ran: Ran) -> Result<
     Ok(())
 }
 
-/// The jobs of a crontab's lines, and then those of an anacrontab. The only error is out of memory.
+/// The jobs of a crontab's lines, then those of an anacrontab.
 pub(crate) fn jobs_of(
     alloc: Global,
     lines: &[Line],

@@ -1,4 +1,4 @@
-//! A line of `journalctl -o json`.
+//! Lines of `journalctl -o json`.
 use crate::line::{LogLine, message};
 use cs_json::{Misread, parse};
 use cs_retrace::Moment;
@@ -19,8 +19,8 @@ fn text_at<'v>(object: &'v Value, name: &str, other: &str) -> Option<&'v [u8]> {
     None
 }
 
-/// When the line was written, in seconds, by which program and process, and its message. The time is a
-/// number of microseconds.
+/// When the line was written, in seconds, by which program and process, and its message. The member
+/// for the time is in microseconds.
 fn entry(object: &Value) -> Option<(u64, &[u8], u64, &[u8])> {
     let time = text_at(object, "__REALTIME_TIMESTAMP", "")?;
     let (seconds, micros) = time.split_at_checked(time.len().checked_sub(6)?)?;
@@ -35,7 +35,6 @@ fn entry(object: &Value) -> Option<(u64, &[u8], u64, &[u8])> {
     Some((number(seconds)?, name, writer, message))
 }
 
-/// What a line of `journalctl -o json` says of a run.
 pub(crate) fn journal(alloc: Global, text: &[u8]) -> Result<Option<LogLine>, AllocError> {
     let object = match parse(alloc, text) {
         Ok(object) => object,

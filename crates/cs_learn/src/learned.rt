@@ -13,7 +13,6 @@ use cs_crontab::Line;
 use cs_retrace::{Given, JobName, has_job, max_of, max_of_identifier, read_maxes};
 use std::alloc::{AllocError, Global};
 
-/// The seconds since a start without an end, 0 where there is none.
 fn seconds_since(run: Option<Ran>) -> u64
     ensures { result ≡ seconds_since run }
 {
@@ -23,8 +22,7 @@ fn seconds_since(run: Option<Ran>) -> u64
     }
 }
 
-/// The max of a job, in minutes: `None` where none of its runs has ended, or where it would be longer
-/// than 4,320.
+/// None where no run has ended, or where the max would be more than 4,320 minutes.
 #[tactic(auto, using(crate::proofs::MaxLemmas::max_is, crate::proofs::MaxLemmas::no_run))]
 pub(crate) fn max_of_job(evidence: &Evidence, factor: Factor) -> Option<u64>
     ensures { IsMaxOf factor evidence.now result }
@@ -33,8 +31,8 @@ pub(crate) fn max_of_job(evidence: &Evidence, factor: Factor) -> Option<u64>
     max_for(evidence.longest?.seconds, since, factor)
 }
 
-/// A line for each job with a max; and a comment for each other one of which a run has no end, unless
-/// the logs tell no ends of its table at all.
+/// A line for each job with a max. Each other job with a run without an end has a comment, unless
+/// the logs never give ends of its table.
 fn text_of(alloc: Global, log: &Log, factor: Factor) -> Result<Vec<u8>, AllocError> {
     let mut text = Vec::new(alloc);
     for job in log.jobs() {
@@ -54,7 +52,6 @@ fn text_of(alloc: Global, log: &Log, factor: Factor) -> Result<Vec<u8>, AllocErr
     Ok(text)
 }
 
-/// Whether each job is given its max.
 fn give(jobs: &[Job], factor: Factor, given: &[Given]) -> bool
     ensures { IsTrue result → All (Gives factor given.now) jobs.now }
 {
@@ -81,14 +78,12 @@ fn max_given(given: &[Given], name: &JobName) -> Option<u64>
     }
 }
 
-/// Whether each is of a job of the tables.
 fn are_of_jobs(lines: &[Line], others: &[AnacronJob], given: &[Given]) -> bool
     ensures { result ≡ list_all (λ g. has_job lines.now others.now g.name) given.now }
 {
     given.iter().all(|one| has_job(lines, others, &one.name))
 }
 
-/// Whether each job is given its max, and nothing else of the tables one.
 fn are_learned(
     lines: &[Line],
     others: &[AnacronJob],
@@ -101,11 +96,8 @@ fn are_learned(
     give(jobs, factor, given) && are_of_jobs(lines, others, given)
 }
 
-/// Returns lines such as `line 3 25` and `job cron.daily 25`, which give each job of the tables its max.
-/// What was written was read back and compared.
-///
-/// `None` is returned where it doesn't pass, which isn't meant to come. The only error is out of
-/// memory.
+/// Returns lines such as `line 3 25` and `job cron.daily 25`, with the max of each job in minutes.
+/// None where the text, read back, differs, which should never happen.
 pub(crate) fn learn(
     alloc: Global,
     lines: &[Line],

@@ -1,4 +1,4 @@
-//! How long the runs of jobs took, from the logs of cron, of anacron and of this program.
+//! Learns how long runs took from logs of cron, anacron and this program.
 #![tactic(auto)]
 
 mod answer;

@@ -13,9 +13,9 @@ use std::alloc::{AllocError, Global};
 pub enum Sign {
     /// It begins.
     Begin,
-    /// It ends.
+    /// It ends, by the number of its beginning.
     End,
-    /// It ends, and the line was written by the parent of its process.
+    /// It ends, by the number of the parent of its process.
     EndByParent,
 }
 
@@ -26,22 +26,23 @@ pub struct LogLine {
     pub at: Moment,
     /// Whether the run begins or ends.
     pub sign: Sign,
-    /// The number of its process, or of its parent's: in this program's log, of its line.
+    /// The number of the run's process, or of its parent; in this program's log that of its line.
     pub number: u64,
-    /// In this program's log the minute in which it was due, since 1970-01-01 00:00.
+    /// In this program's log its due minute, since 1970-01-01 00:00.
     pub due: Option<u64>,
-    /// Its user, empty where the log doesn't tell.
+    /// Its user; empty where the log has none.
     pub user: Bytes,
-    /// Its command as the log has it, empty where the log doesn't tell; in anacron's its identifier.
+    /// Its command as the log has it, or the identifier of an anacron job; empty where the log has
+    /// none.
     pub command: Bytes,
     /// Whether anacron wrote the line.
     pub is_anacron: bool,
-    /// Whether it is a line of this program's log, which lists the commands of its table.
+    /// Whether it is in this program's log, with the command from its list of the table.
     pub is_listed: bool,
 }
 
-/// The user, whether the run begins or ends, and what stands in the second parentheses: `CMD` where it
-/// begins, `END` (Debian's cron) and `CMDEND` (cronie) where it ends.
+/// The user, whether the run begins or ends, and the text in the second parentheses: `CMD` begins a
+/// run; `END` (Debian's cron) and `CMDEND` (cronie) end it.
 fn message_parts(text: &[u8]) -> Option<(&[u8], Sign, &[u8])> {
     let (user, rest) = split(b')', behind(b"(", text)?)?;
     let (word, rest) = split(b'(', rest)?;
@@ -54,14 +55,14 @@ fn message_parts(text: &[u8]) -> Option<(&[u8], Sign, &[u8])> {
     Some((user, sign, rest.strip_suffix(b")".as_slice())?))
 }
 
-/// The number of the job's own process, and the command, of a text such as `[4321] command`.
+/// The number of the job's own process, and the command, of `[4321] command`.
 fn numbered(text: &[u8]) -> Option<(u64, &[u8])> {
     let (digits, rest) = split(b']', behind(b"[", text)?)?;
     Some((number(digits)?, behind(b" ", rest)?))
 }
 
-/// What a message of cron such as `(root) CMD (command)` says, written by the process of that number. An
-/// end with the job's own number names the run as its beginning does.
+/// A message of cron such as `(root) CMD (command)`, by the process `writer`. Where both messages
+/// have the job's own number, it names the run.
 fn of_cron(
     alloc: Global,
     at: Moment,
@@ -88,8 +89,8 @@ fn of_cron(
     }))
 }
 
-/// The identifier of a job of anacron, and whether it begins or ends, of a message such as
-/// ``Job `cron.daily' started`` or ``Job `cron.daily' terminated (exit status: 1)``.
+/// The identifier, and whether the job begins or ends, of ``Job `cron.daily' started`` or ``Job
+/// `cron.daily' terminated (exit status: 1)``.
 fn job_parts(text: &[u8]) -> Option<(&[u8], Sign)> {
     let (quoted, rest) = split(b' ', behind(b"Job `", text)?)?;
     let identifier = quoted.strip_suffix(b"'".as_slice())?;
@@ -102,7 +103,6 @@ fn job_parts(text: &[u8]) -> Option<(&[u8], Sign)> {
     }
 }
 
-/// What a message of anacron says, written by the process of that number.
 fn of_anacron(
     alloc: Global,
     at: Moment,
@@ -124,7 +124,7 @@ fn of_anacron(
     }))
 }
 
-/// What a message of that program says.
+/// What a message of `program`, by the process `writer`, says.
 pub(crate) fn message(
     alloc: Global,
     at: Moment,
@@ -151,7 +151,6 @@ fn tagged(text: &[u8]) -> Option<(&[u8], u64, &[u8])> {
     Some((name, number(digits)?, behind(b": ", rest)?))
 }
 
-/// What a line of cron or anacron says behind its time.
 fn of_program(alloc: Global, at: Moment, text: &[u8]) -> Result<Option<LogLine>, AllocError> {
     match tagged(text) {
         None => Ok(None),
@@ -159,7 +158,7 @@ fn of_program(alloc: Global, at: Moment, text: &[u8]) -> Result<Option<LogLine>,
     }
 }
 
-/// What a line of this program's log says behind its time of a run of a crontab's line.
+/// A line of this program's log, after its time.
 fn of_own(alloc: Global, at: Moment, text: &[u8]) -> Option<LogLine> {
     let run = told(text)?;
     let sign = match run.verb {
@@ -179,13 +178,12 @@ fn of_own(alloc: Global, at: Moment, text: &[u8]) -> Option<LogLine> {
     })
 }
 
-/// What a line of a log says of a run, without its newline: `None` where it says nothing.
+/// What a line of a log, without its newline, says of a run; none if it says nothing.
 ///
-/// Lines of Debian's cron, cronie and anacron through syslog, with a time of RFC 3339 or of `journalctl -o
-/// short-iso` in place of syslog's too, through `journalctl -o json`, and of this program's own log. That
-/// PAM closes a session is no end: the line names the user and the parent of the job's process alone,
-/// and of two sessions of one user that begin at once the earlier parent may have the later job. The
-/// only error is out of memory.
+/// Reads lines of Debian's cron, cronie and anacron from syslog, with its time, that of RFC 3339 or
+/// that of `journalctl -o short-iso`; of `journalctl -o json`; and of this program's log. A line of
+/// PAM that closes a session is no end: it has only the user and the parent of the job's process,
+/// and of two sessions that one user begins at once the earlier parent may have the later job.
 pub(crate) fn read_line(alloc: Global, text: &[u8]) -> Result<Option<LogLine>, AllocError> {
     if text.starts_with(b"{") {
         return journal(alloc, text);

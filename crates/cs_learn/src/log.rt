@@ -17,32 +17,33 @@ use std::alloc::{AllocError, Global};
 /// The longest line of a log that is read, in bytes.
 const MAX_LINE: usize = 8_192;
 
-/// Fewer runs than this are open: where they are as many, none of them has an end.
+/// When so many runs are open, all of them are taken as runs without an end.
 const MAX_OPEN: usize = 4_096;
 
-/// What logs tell of these jobs: read byte by byte, in memory that doesn't grow with their length.
+/// What logs say of these jobs. The memory doesn't grow with the logs' length.
 #[derive(Drop)]
 pub struct Log {
-    /// The runs that have begun and not ended, by number and due minute, with the lines of their beginnings.
+    /// The runs that have begun and not ended, by number and due minute, with the lines of their
+    /// beginnings.
     open: IndexMap<(u64, u64), LogLine>,
-    /// When the last line of a run was written.
+    /// When the last line about a run was written.
     last: Moment,
-    /// The commands that this program's log lists of its daemon's table, by the numbers of their lines.
+    /// The commands that this program's log lists for its daemon's table, by line number.
     commands: IndexMap<u64, Bytes>,
-    /// How many lines of cron and of this program told what.
+    /// Counts of lines of cron and of this program.
     pub tally: Tally,
-    /// And how many of anacron, on its jobs.
+    /// Counts of lines of anacron on its jobs.
     pub anacron: Tally,
-    /// The paths of the logs that are compressed.
+    /// The paths of compressed logs.
     pub compressed: Vec<Bytes>,
-    /// Whether the log that is read is compressed.
+    /// Whether the current log is compressed.
     is_compressed: bool,
     line: Vec<u8>,
-    /// The jobs, and what is known of each.
+    /// The jobs, and what the logs say of each.
     jobs: Vec<Job>,
 }
 
-/// What the log calls a run: 0 stands for no due minute.
+/// Names a run in the log; 0 stands for no due minute.
 fn name(line: &LogLine) -> (u64, u64) {
     (line.number, line.due.unwrap_or(0))
 }
@@ -55,7 +56,7 @@ fn is_compressed(line: &[u8]) -> bool {
 }
 
 impl Log {
-    /// What is known of jobs before any log, without allocating.
+    /// Nothing is known yet. Doesn't allocate.
     pub(crate) fn new(alloc: Global, jobs: Vec<Job>) -> Log {
         Log {
             open: IndexMap::new(alloc),
@@ -70,19 +71,18 @@ impl Log {
         }
     }
 
-    /// The jobs, and what is known of each.
     pub(crate) fn jobs(&self) -> &[Job]
         ensures { result.now ≡ self.now.jobs.items }
     {
         self.jobs.as_slice()
     }
 
-    /// Whether lines of the job's table tell an end, or no line of it tells a start.
+    /// Whether the logs would have ends of the job's runs: anacron always logs them.
     pub(crate) fn tells_ends(&self, job: &Job) -> bool {
         job.is_anacron() || !self.tally.has_no_ends()
     }
 
-    /// Takes a beginning. It takes the place of a run of its name, since numbers are used again.
+    /// A run begins. An open run of the same name has no end then, as numbers are used again.
     fn begin(&mut self, line: LogLine) -> Result<(), AllocError> {
         self.last = line.at;
         self.tally.begun = self.tally.begun.saturating_add(1);
@@ -93,8 +93,9 @@ impl Log {
         Ok(())
     }
 
-    /// The open run of the same user and command that a line ends: of its number, or of the next that
-    /// there is, since a parent that tells of an end got its number before the job's process did.
+    /// The open run of the same user and command that the line ends: of the line's number, or,
+    /// where the parent logs the end, of the next number, as a parent gets its number before its
+    /// child.
     fn nearest(&self, line: &LogLine) -> Option<(u64, u64)> {
         let (first, due) = name(line);
         let steps = match line.sign {
@@ -130,7 +131,7 @@ impl Log {
         }
     }
 
-    /// Takes a line of anacron on one of the jobs; another one is passed over.
+    /// Anacron's lines on other jobs are ignored.
     fn take_anacron(&mut self, line: &LogLine) -> Result<(), AllocError> {
         let identifier = line.command.as_slice();
         let mut jobs = self.jobs.iter();
@@ -144,7 +145,7 @@ impl Log {
         }
     }
 
-    /// Takes a line on a run, with the command that is listed for it, if a table is listed.
+    /// Adds a line on a run, with the command that is listed for it, if a table is listed.
     fn take(&mut self, alloc: Global, line: LogLine) -> Result<(), AllocError> {
         let mut line = line;
         if self.commands.len() > 0 && line.due.is_some() {
@@ -163,8 +164,8 @@ impl Log {
         }
     }
 
-    /// Takes a line that tells nothing of a run, if it lists a command, as `job line 3: COMMAND` does. A
-    /// daemon that begins lists all anew.
+    /// Keeps the command of a line such as `job line 3: COMMAND`. A daemon that begins lists all of
+    /// them again.
     fn take_other(&mut self, alloc: Global) -> Result<(), AllocError> {
         let Some((_at, words)) = time_and_rest(self.line.as_slice()) else {
             return Ok(());
@@ -203,7 +204,7 @@ impl Log {
         Ok(())
     }
 
-    /// Takes the end of all logs, which tell no end of what is open. The only error is out of memory.
+    /// Ends all logs: open runs have no end.
     pub(crate) fn close(&mut self) -> Result<(), AllocError> {
         for i in 0..self.jobs.len() {
             self.jobs[i].close(self.last, &mut self.anacron)?;
@@ -211,7 +212,7 @@ impl Log {
         self.close_open()
     }
 
-    /// Takes that no line tells the ends of runs of the crontab that are open.
+    /// Open runs of the crontab have no end.
     fn close_open(&mut self) -> Result<(), AllocError> {
         for place in 0..self.open.len() {
             if let Some((_name, line)) = self.open.get_index(place) {
@@ -223,7 +224,7 @@ impl Log {
         Ok(())
     }
 
-    /// Takes the next bytes of a log. The only error is out of memory, after which nothing is known.
+    /// Reads the next bytes of a log. The only error is out of memory; the state is unknown then.
     pub(crate) fn bytes(&mut self, alloc: Global, bytes: &[u8]) -> Result<(), AllocError> {
         for byte in bytes {
             if *byte == b'\n' {
@@ -235,8 +236,8 @@ impl Log {
         Ok(())
     }
 
-    /// Takes the end of the log at this path, which ends a last line without a newline. The only error is
-    /// out of memory, after which nothing is known.
+    /// Ends the log at this path, and its last line, which may lack a newline. The only error is
+    /// out of memory; the state is unknown then.
     pub(crate) fn end(&mut self, alloc: Global, path: &str) -> Result<(), AllocError> {
         if !self.line.is_empty() {
             self.end_line(alloc)?;

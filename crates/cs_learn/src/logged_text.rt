@@ -1,4 +1,4 @@
-//! A command as cron logs it.
+//! Commands as cron logs them.
 use cs_civil::Bytes;
 use std::alloc::{AllocError, Global};
 
@@ -21,9 +21,8 @@ fn push_shown(text: &mut Vec<u8>, byte: u8) -> Result<(), AllocError> {
     ])
 }
 
-/// A command of a crontab as cron logs it, Debian's cron or cronie: what is run, the part up to the first
-/// `%` without a backslash. A backslash in front of `%` is left out, and by Debian's cron one in front of
-/// a backslash too. The only error is out of memory.
+/// A command as Debian's cron or cronie logs it: up to the first `%` without a backslash. A
+/// backslash before `%` is dropped, and by Debian's cron one before a backslash too.
 pub(crate) fn logged(alloc: Global, debian: bool, command: &[u8]) -> Result<Bytes, AllocError> {
     let mut text = Vec::new(alloc);
     let mut escaped = false;

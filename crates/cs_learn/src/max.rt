@@ -1,4 +1,4 @@
-//! The max that evidence gives.
+//! The max of a job.
 ghost use Rattle.std.specs.Prelude.{◌≡◌, ◌<◌, ◌≤◌, ℕ, IfSome, IsNone};
 ghost use Rattle.cs_table.specs.SettingReading.{quoted_at};
 ghost use Rattle.cs_learn.specs.Max.{factor_in, in_hundredths, hundredths_in, IsMax, IsEnough};
@@ -7,7 +7,7 @@ use cs_retrace::LONGEST_MAX;
 use cs_retrace::words::{number, split};
 use std::marker::Model;
 
-/// By how much a max is to be longer than the longest run: from 1 to 10, in hundredths.
+/// What the longest run is multiplied by for a max: from 1 to 10, in hundredths.
 #[derive(Clone, Copy)]
 pub struct Factor {
     hundredths: u64,
@@ -48,8 +48,7 @@ fn in_hundredths(text: &[u8]) -> Option<u64>
 }
 
 impl Factor {
-    /// Reads a factor from 1 to 10 with at most two digits behind the point, such as `1.5`: `None`
-    /// where the text is no such factor.
+    /// Reads a factor from 1 to 10 with at most two digits after the point, such as `1.5`.
     #[tactic(auto, unfolding(crate::specs::Max::factor_in))]
     pub fn read(text: &[u8]) -> Option<Factor>
         ensures { result ≡ factor_in text.now }
@@ -70,9 +69,8 @@ impl Factor {
     }
 }
 
-/// Returns the max, in minutes, for a job whose longest run took so many seconds, with so many
-/// seconds since a start without an end: `None` where that is longer than
-/// [`LONGEST_MAX`](cs_retrace::LONGEST_MAX).
+/// Returns the max in minutes for a longest run of `longest` seconds, and `since` seconds since a
+/// start without an end; none if it is more than [`LONGEST_MAX`](cs_retrace::LONGEST_MAX).
 pub fn max_for(longest: u64, since: u64, factor: Factor) -> Option<u64>
     ensures value { IfSome result (IsMax longest since factor) }
     ensures none { IsNone result → (minutes : ℕ) → IsEnough longest since factor minutes

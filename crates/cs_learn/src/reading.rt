@@ -1,4 +1,4 @@
-//! Logs at paths.
+//! Reads logs at paths.
 ghost use Rattle.std.specs.Prelude.{◌≡◌, ◌⊎◌, Contains, IfErr, OnOk, map, true};
 ghost use Rattle.cs_io.specs.Files.{AreReadInTurn, IsFresh, IsReadAlone, IsReadOut, IsTooLong, Reads};
 ghost use Rattle.cs_io.specs.Reasons.{IsCannotRead};
@@ -7,7 +7,6 @@ use crate::log::Log;
 use cs_io::{Inputs, MOST_READS, ReadFault, Reason};
 use std::alloc::Global;
 
-/// Reads all of a log at a path.
 fn read_log<I: Inputs>(
     alloc: Global,
     inputs: &mut I,
@@ -17,7 +16,7 @@ fn read_log<I: Inputs>(
     ensures works { OnOk result (I.failed inputs.new ≡ I.failed inputs.old) }
     ensures whole { I.whole inputs.new ≡ I.whole inputs.old }
 
-    // this path too is read from its front next
+    // a later read of this path begins at its start
     ensures fresh { OnOk result (IsFresh (I.whole inputs.old) (I.left inputs.old)
         → IsFresh (I.whole inputs.new) (I.left inputs.new)) }
     ensures fails { IfErr result (λ e. IsCannotRead e
@@ -37,7 +36,7 @@ fn read_log<I: Inputs>(
     Err(ReadFault::CannotRead(Reason::Endless))
 }
 
-/// A log that can't be read, or want of memory.
+/// A log that can't be read, or out of memory.
 #[derive(Clone, Copy)]
 pub struct Unread<'a> {
     /// The path of the log.
@@ -46,9 +45,9 @@ pub struct Unread<'a> {
     pub fault: ReadFault,
 }
 
-/// Reads all of the logs at these paths one after the other, in memory that doesn't grow with their
-/// length: a run may begin in one and end in a later one. A log without end after [`MOST_READS`](cs_io::MOST_READS) reads can't be read. After
-/// an error nothing is known of the jobs.
+/// Reads the logs one after the other, as a run may begin in one and end in a later one. A log that
+/// has no end after [`MOST_READS`](cs_io::MOST_READS) reads can't be read. After an error nothing
+/// is known of the jobs.
 pub(crate) fn read_logs<'a, I: Inputs>(
     alloc: Global,
     inputs: &mut I,
@@ -58,7 +57,7 @@ pub(crate) fn read_logs<'a, I: Inputs>(
     ensures works { OnOk result (I.failed inputs.new ≡ I.failed inputs.old) }
     ensures whole { I.whole inputs.new ≡ I.whole inputs.old }
 
-    // these paths too are read from their fronts next
+    // a later read of these paths begins at their starts
     ensures fresh { OnOk result (IsFresh (I.whole inputs.old) (I.left inputs.old)
         → IsFresh (I.whole inputs.new) (I.left inputs.new)) }
     ensures fails { IfErr result (λ e. IsCannotRead e.fault

@@ -1,4 +1,4 @@
-//! What is told of the jobs and of the logs, a line each.
+//! The report on jobs and logs, a line each.
 use crate::clock::push_moment;
 use crate::evidence::{Evidence, Ran};
 use crate::job::Job;
@@ -95,9 +95,8 @@ fn push_runs(alloc: Global, text: &mut Vec<u8>, evidence: &Evidence, longest: Ra
     push_moment(text, longest.began)
 }
 
-/// `line 3: 2 runs (fewer than 10), median 20 s, longest 1 min 30 s from Nov  7 09:17:01, max 3 min`, with
-/// the place of the line behind its number where it has one, such as `, /etc/cron.d/munin:12 (munin)`.
-/// Nothing where no run has ended.
+/// `line 3: 2 runs (fewer than 10), .., max 3 min`, with the line's place after its number, if it
+/// has one: `, /etc/cron.d/munin:12 (munin)`. Nothing where no run has ended.
 fn push_row(
     alloc: Global,
     text: &mut Vec<u8>,
@@ -142,8 +141,7 @@ fn push_listed(alloc: Global, text: &mut Vec<u8>, name: &JobName) -> Done {
     }
 }
 
-/// `no ended runs of 3 lines and 1 job: 1, 4, 7, cron.daily`: at most 20 of them are listed, and behind
-/// these `and 3 more`.
+/// `no ended runs of 3 lines and 1 job: 1, 4, 7, cron.daily`, and after the first 20 ` and 3 more`.
 fn push_without_runs(alloc: Global, text: &mut Vec<u8>, jobs: &[Job]) -> Done {
     let mut listed = Vec::new(alloc);
     let (mut count, mut others) = (0u64, 0u64);
@@ -172,7 +170,7 @@ fn push_without_runs(alloc: Global, text: &mut Vec<u8>, jobs: &[Job]) -> Done {
     text.extend_from_slice(b"\n")
 }
 
-/// Tells of runs that took longer than it may be to the next due minute.
+/// Notes runs that took longer than the least time to the next due minute.
 fn push_overrun(alloc: Global, text: &mut Vec<u8>, line: &Line, evidence: &Evidence) -> Done {
     let When::At(schedule) = line.when() else {
         return Ok(());
@@ -192,7 +190,6 @@ fn push_overrun(alloc: Global, text: &mut Vec<u8>, line: &Line, evidence: &Evide
     text.extend_from_slice(note.as_bytes())
 }
 
-/// Tells of starts without an end.
 fn push_unended(alloc: Global, text: &mut Vec<u8>, job: &Job) -> Done {
     let Some(start) = job.evidence.longest_open else {
         return Ok(());
@@ -208,7 +205,7 @@ fn push_unended(alloc: Global, text: &mut Vec<u8>, job: &Job) -> Done {
     text.extend_from_slice(b"\n")
 }
 
-/// Tells that a run is too long for a max.
+/// Notes a run that is too long for a max.
 fn push_too_long(alloc: Global, text: &mut Vec<u8>, job: &Job) -> Done {
     let what = match job.evidence.longest_open {
         Some(start) if start.seconds / 60 >= LONGEST_MAX => {
@@ -221,7 +218,7 @@ fn push_too_long(alloc: Global, text: &mut Vec<u8>, job: &Job) -> Done {
     text.extend_from_slice(b" more than 4320 min, so its max isn't learned\n")
 }
 
-/// Tells that runs of the line were by another table.
+/// Notes runs of the line that belonged to another table.
 fn push_refused(alloc: Global, text: &mut Vec<u8>, number: u32, refused: u64) -> Done {
     if refused == 0 {
         return Ok(());
@@ -233,7 +230,7 @@ fn push_refused(alloc: Global, text: &mut Vec<u8>, number: u32, refused: u64) ->
     text.extend_from_slice(note.as_bytes())
 }
 
-/// Tells of the first job before this one whose runs its logs can't tell from its own.
+/// Notes the first job above whose runs the log doesn't distinguish from this one's.
 fn push_alike(
     alloc: Global,
     text: &mut Vec<u8>,
@@ -256,7 +253,7 @@ fn push_alike(
     Ok(())
 }
 
-/// Tells how many of such there are, where there are any.
+/// Adds a note and its count, unless that is 0.
 fn push_left_out(alloc: Global, text: &mut Vec<u8>, told: &[u8], count: u64) -> Done {
     if count == 0 {
         return Ok(());
@@ -266,7 +263,6 @@ fn push_left_out(alloc: Global, text: &mut Vec<u8>, told: &[u8], count: u64) -> 
     text.extend_from_slice(b"\n")
 }
 
-/// Tells which logs are compressed.
 fn push_compressed(text: &mut Vec<u8>, paths: &[Bytes]) -> Done {
     for path in paths {
         text.extend_from_slice(b"note: ")?;
@@ -276,7 +272,7 @@ fn push_compressed(text: &mut Vec<u8>, paths: &[Bytes]) -> Done {
     Ok(())
 }
 
-/// Tells what the lines of the logs don't tell.
+/// Notes what the logs lack.
 fn push_tally(alloc: Global, text: &mut Vec<u8>, log: &Log) -> Done {
     let (tally, anacron) = (log.tally, log.anacron);
     push_compressed(text, log.compressed.as_slice())?;
@@ -297,7 +293,7 @@ fn push_tally(alloc: Global, text: &mut Vec<u8>, log: &Log) -> Done {
     push_left_out(alloc, text, TOO_LONG, tally.too_long)
 }
 
-/// Adds the notes on jobs, which begin with those of the crontab's lines.
+/// Adds the notes on jobs; `lines` are those of the first jobs.
 fn push_notes(
     alloc: Global,
     text: &mut Vec<u8>,
@@ -322,8 +318,7 @@ fn push_notes(
     Ok(())
 }
 
-/// What is told of the jobs of tables, whose logs were read: a line each, and then the notes. The only
-/// error is out of memory.
+/// The report: a line for each job, and then the notes.
 pub(crate) fn summary_of(
     alloc: Global,
     lines: &[Line],

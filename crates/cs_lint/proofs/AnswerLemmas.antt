@@ -1,4 +1,3 @@
--- What is answered to `lint`.
 use Rattle.std.proofs.Common.{◌≡◌, ◌<◌, ◌≤◌, ◌⊎◌, ◌∙◌, ℕ, true, List, [], Option, Some, None, IfSome, ap, arith, inl, inr, length, option_map, refl, subst, sym}
 use Rattle.std.proofs.lemmas.Bool.{cases_lt}
 use Rattle.clap.specs.Words.{Text}
@@ -17,7 +16,7 @@ use Rattle.cs_files.specs.declared.fault.Fault.{Fault}
 use Rattle.cs_files.proofs.TroubleLemmas.{some_is}
 use Rattle.cs_lint.specs.Answer.{AreHeld, AreHeldTables, HasNoZone, IfAllKnown, IfKnown, IfShort, IsLong, IsShort, IsNoZone, IsSomeUpTo, IsTrueOf, IsUnreadFile, IsUnreadZone, IsUnreadable, LintsFiles, TellsZone}
 
--- a file can't be read, or is no time zone's
+-- a file can't be read, or is not a time zone file
 pub unread_answer : (a : AskedLint) (files : List ℕ → Option (List ℕ)) (before after : Failed) (e : Fault) (r : Ending) → IfSome (trouble e) (IsUnreadable a files before after) → option_map (ends []) (trouble e) ≡ Some r → LintsFiles a files before after r
 unread_answer a files before after e r = by_trouble (trouble e)
   where
@@ -25,7 +24,6 @@ unread_answer a files before after e r = by_trouble (trouble e)
     by_trouble None h is = absurd (cc)
     by_trouble (Some t) told is = inr (t, told, sym (some_is (ends [] t) r is))
 
--- a file can't be read
 pub unread_file : (a : AskedLint) (files : List ℕ → Option (List ℕ)) (before after : Failed) (e : Fault) → IsUnreadFile e → IfSome (trouble e) (IsUnreadable a files before after)
 unread_file a files before after e = by_trouble (trouble e)
   where
@@ -35,7 +33,6 @@ unread_file a files before after e = by_trouble (trouble e)
 
 -- ---- what is known of a file
 
--- it holds of each text
 if_known : (files : List ℕ → Option (List ℕ)) (path : Option Text) (R : Option (List ℕ) → Type 0) → ((text : Option (List ℕ)) → R text) → IfKnown files path R
 if_known files None R h = h None
 if_known files (Some path) R h = if_some (files path)
@@ -44,7 +41,6 @@ if_known files (Some path) R h = if_some (files path)
     if_some None = tt
     if_some (Some text) = h (Some text)
 
--- it holds of each text of which another thing does
 known_so : (files : List ℕ → Option (List ℕ)) (path : Option Text) (Q R : Option (List ℕ) → Type 0) → ((text : Option (List ℕ)) → Q text → R text) → IfKnown files path Q → IfKnown files path R
 known_so files None Q R h is = h None is
 known_so files (Some path) Q R h is = if_some (files path) is
@@ -55,19 +51,18 @@ known_so files (Some path) Q R h is = if_some (files path) is
 
 -- ---- what is judged
 
--- a status that judges texts judges the same texts
+-- equal texts and an equal status are judged alike
 pub judges_so : (s r : ℕ) (t u : List ℕ) (j k d e : Option (List ℕ)) → r ≡ s → t ≡ u → j ≡ k → d ≡ e → Judges s t j d → Judges r u k e
 judges_so s r t u j k d e status table jobs declarations is =
     subst (λ (n : ℕ). Judges n u k e) (sym status) (subst (λ (x : Option (List ℕ)). Judges s u k x) declarations (subst (λ (x : Option (List ℕ)). Judges s u x d) jobs (subst (λ (x : List ℕ). Judges s x j d) table is)))
 
 -- ---- tables that are too long
 
--- two crontabs that are too long are judged alike, whatever is beside them
+-- two crontabs that are too long are judged alike, whatever the other files are
 long_table : (s : ℕ) (held text : List ℕ) (j k d e : Option (List ℕ)) → MAX_TABLE < length held → MAX_TABLE < length text → Judges s held j d → Judges s text k e
 long_table s held text j k d e l m (inl (three, is)) = inl (three, inl (nowhere TooLong, inl (m, refl)))
 long_table s held text j k d e l m (inr (few, (table, jobs, means, other, plan))) = absurd (let short = means.short in omega (arith, short, l))
 
--- and so are two anacrontabs
 long_jobs : (s : ℕ) (t : List ℕ) (held text d e : Option (List ℕ)) → IsLong held → IsLong text → Judges s t held d → Judges s t text e
 long_jobs s t None text d e l m is = absurd l
 long_jobs s t (Some held) None d e l m is = absurd m
@@ -81,7 +76,7 @@ short_or_long (Some text) = elim (cases_lt MAX_TABLE (length text)) [
   | inr short ↦ inl short
 ]
 
--- what was judged of the bytes that were read is so of the files
+-- what holds of the bytes that were read holds of the files
 pub judged : (a : AskedLint) (files : List ℕ → Option (List ℕ)) (v : ℕ) (table : List ℕ) (jobs declarations : Option (List ℕ))
     → AreHeld a files table jobs declarations → Judges v table jobs declarations → IfAllKnown files a (Judges v)
 judged a files v table jobs declarations (tables, more) is = by_table (files a.table) tables.0
@@ -111,7 +106,7 @@ long_no_short : (o : Option (List ℕ)) → IsLong o → IsShort o → ⊥
 long_no_short None l s = l
 long_no_short (Some text) l s = omega (arith, l, s)
 
--- what holds where the tables that were read aren't too long does where their files aren't
+-- what holds if the tables that were read aren't too long holds if the files aren't
 pub short_so : (a : AskedLint) (files : List ℕ → Option (List ℕ)) (table : List ℕ) (jobs : Option (List ℕ)) (R : Type 0)
     → AreHeldTables a files table jobs → (length table ≤ MAX_TABLE → IsShort jobs → R) → IfShort files a R
 short_so a files table jobs R (read, beside) h = by_table (files a.table) read
@@ -128,7 +123,7 @@ short_so a files table jobs R (read, beside) h = by_table (files a.table) read
     by_table (Some t) (inl same) = subst (λ (b : List ℕ). length b ≤ MAX_TABLE → IfKnown files a.anacrontab (λ j. IsShort j → R)) same of_held
     by_table (Some t) (inr (l, m)) = λ short. absurd (omega (arith, short, m))
 
--- the file of the zone can't be read, or is none
+-- the file of the zone can't be read, or is not a time zone file
 pub unread_zone : (a : AskedLint) (files held : List ℕ → Option (List ℕ)) (before middle after : Failed) (table : List ℕ) (jobs : Option (List ℕ)) (e : Fault)
     → AreHeldTables a files table jobs → held ≡ files → middle ≡ before → IsUnreadZone a.zone middle after e
     → (length table ≤ MAX_TABLE → IsShort jobs → IsTrueOf held a.zone e) → IfSome (trouble e) (IsUnreadable a files before after)
@@ -144,7 +139,7 @@ unread_zone a files held before middle after table jobs e tables same kept = by_
       short_so a files table jobs (HasNoZone files a.zone) tables (λ short few. subst (λ (f : List ℕ → Option (List ℕ)). HasNoZone f a.zone) same (is short few zone)),
     )
 
--- a file that can't be read isn't told to be no zone's
+-- a file that can't be read isn't said to be no time zone file
 pub unread_is_other : (files : List ℕ → Option (List ℕ)) (path : Text) (before after : Failed) (e : Fault) → IsUnreadAt path after e → IsUnreadZone (Some path) before after e × IsTrueOf files (Some path) e
 unread_is_other files path before after e = by_trouble (trouble e)
   where
@@ -156,7 +151,7 @@ unread_is_other files path before after e = by_trouble (trouble e)
     by_trouble None is = (tt, tt)
     by_trouble (Some t) (failed, (reason, is)) = (inl (path, (reason, is)), λ zone. absurd (other t reason zone.0 is zone.2))
 
--- and what is no zone is told so
+-- but a file of another format is
 pub none_is_told : (path : Text) (bytes : List ℕ) (before after : Failed) (e : Fault) → after ≡ before
     → IfSome (trouble e) (λ t. (t ≡ NoTimeZone path) × IsNoZone bytes) → IsUnreadZone (Some path) before after e
 none_is_told path bytes before after e same = by_trouble (trouble e)
@@ -165,7 +160,6 @@ none_is_told path bytes before after e same = by_trouble (trouble e)
     by_trouble None is = tt
     by_trouble (Some t) (is, none) = inr (same, (path, refl, is))
 
--- bytes that are no zone's were read of a file that is none
 no_zone_read : (text bytes : List ℕ) → IsUpTo MAX_TABLE text bytes → IsNoZone bytes → IsNoZone text
 no_zone_read text bytes (inl same) none = subst IsNoZone same none
 no_zone_read text bytes (inr (l, m)) none = inl m
@@ -182,7 +176,7 @@ none_is_true files left path bytes e fresh read = by_trouble (trouble e)
     by_trouble None is = tt
     by_trouble (Some t) (is, none) = λ zone. by_file (files path) (left path) (fresh path) read none
 
--- which is no status of a failed device
+-- this is no status of a failed device
 pub zone_is_honest : (failed : Failed) (reads : Reads) (path : Text) (bytes : List ℕ) (e : Fault) → IfSome (trouble e) (λ t. (t ≡ NoTimeZone path) × IsNoZone bytes) → IsHonestOf failed reads e
 zone_is_honest failed reads path bytes e = by_trouble (trouble e)
   where

@@ -15,24 +15,24 @@ use Rattle.cs_decl.specs.declared.entries.Entries.{Entries}
 use Rattle.cs_diagnostics.specs.declared.findings.FirstFault.{FirstFault}
 use Rattle.cs_lint.specs.declared.refusal.Refusal.{Refusal}
 
--- what an anacrontab means, where there is one; without one there are no jobs
+-- what an anacrontab means; without one there are no jobs
 abbrev pub MeansSome : Option (List ℕ) → Result JobTable (Found JobFault) → Type 0
 MeansSome None read = read ≡ Ok no_jobs
 MeansSome (Some text) read = MeansJobs text read
 
--- the declarations, if there are any, have a fault, by themselves or beside the tables
+-- the declarations have a fault, by themselves or beside the tables
 abbrev pub HasNoPlan : Table → JobTable → Option (List ℕ) → Type 0
 HasNoPlan table jobs None = ⊥
 HasNoPlan table jobs (Some text) = (fault : Fault) × ((declared_by text ≡ Err fault)
     ⊎ ((d : Entries) × (declared_by text ≡ Ok d) × (joined table jobs d ≡ Err fault)))
 
--- or they make a plan of the tables
+-- there are none, or they make a plan of the tables
 abbrev pub HasPlan : Table → JobTable → Option (List ℕ) → Type 0
 HasPlan table jobs None = Unit {0}
 HasPlan table jobs (Some text) =
     (d : Entries) × (plan : Declared) × (declared_by text ≡ Ok d) × (joined table jobs d ≡ Ok plan)
 
--- A table has a fault, or both are fine and the declarations have one.
+-- A table has a fault, or the declarations have one beside tables that have none.
 abbrev pub AreRefused : List ℕ → Option (List ℕ) → Option (List ℕ) → Type 0
 AreRefused table jobs declarations =
     ((fault : Found LineFault) × Means table (Err fault))
@@ -40,35 +40,32 @@ AreRefused table jobs declarations =
     ⊎ ((t : Table) × (j : JobTable) × Means table (Ok t) × MeansSome jobs (Ok j)
     × HasNoPlan t j declarations))
 
--- Both tables are fine, and so are the declarations.
+-- No file has a fault.
 abbrev pub AreTaken : List ℕ → Option (List ℕ) → Option (List ℕ) → Type 0
 AreTaken table jobs declarations =
     (t : Table) × (j : JobTable) × Means table (Ok t) × MeansSome jobs (Ok j)
     × HasPlan t j declarations
 
--- A status judges some files: it's 3 exactly where their readers refuse them, else 0 or 1.
+-- The status is 3 exactly where the readers refuse the files, else 0 or 1.
 abbrev pub Judges : ℕ → List ℕ → Option (List ℕ) → Option (List ℕ) → Type 0
 Judges status table jobs declarations = ((status ≡ 3) × AreRefused table jobs declarations)
     ⊎ ((status ≤ 1) × AreTaken table jobs declarations)
 
--- ---- the same of what the readers answer
+-- ---- the same of the readers' results
 
 abbrev pub Finds : Result (Option Declared) Refusal → List ℕ → Option (List ℕ)
     → Option (List ℕ) → Type 0
 Finds (Ok plan) table jobs declarations = AreTaken table jobs declarations
 Finds (Err refusal) table jobs declarations = AreRefused table jobs declarations
 
--- of declarations beside tables that are fine
 abbrev pub FindsPlan : Result Declared FirstFault → Table → JobTable → List ℕ → Type 0
 FindsPlan (Ok plan) table jobs text = HasPlan table jobs (Some text)
 FindsPlan (Err first) table jobs text = HasNoPlan table jobs (Some text)
 
--- of an anacrontab
 abbrev pub FindsJobs : Result JobTable FirstFault → Option (List ℕ) → Type 0
 FindsJobs (Ok jobs) text = MeansSome text (Ok jobs)
 FindsJobs (Err first) text = (fault : Found JobFault) × MeansSome text (Err fault)
 
--- of a crontab
 abbrev pub FindsTable : Result Table FirstFault → List ℕ → Type 0
 FindsTable (Ok table) text = Means text (Ok table)
 FindsTable (Err first) text = (fault : Found LineFault) × Means text (Err fault)

@@ -26,7 +26,7 @@ use cs_table::MAX_TABLE;
 use jiff_core::Timestamp;
 use std::alloc::{AllocError, Global};
 
-/// The bytes of an anacrontab, if there is one, or more of them than it may have.
+/// Reads at most one byte more than an anacrontab may have.
 fn jobs_at<'a, I: Inputs>(
     alloc: Global,
     inputs: &mut I,
@@ -52,7 +52,6 @@ fn jobs_at<'a, I: Inputs>(
     }
 }
 
-/// The bytes of declarations, if there are any.
 fn declarations_at<'a, I: Inputs>(
     alloc: Global,
     inputs: &mut I,
@@ -77,7 +76,7 @@ fn declarations_at<'a, I: Inputs>(
     }
 }
 
-/// The next changes of the clocks of the time zone whose file is at a path, if there is one.
+/// The next changes of the clocks of the zone whose file is at the path.
 fn changes_at<'a, I: Inputs>(
     alloc: Global,
     inputs: &mut I,
@@ -101,7 +100,6 @@ fn changes_at<'a, I: Inputs>(
     changes_in(alloc, path, zone.as_slice(), now)
 }
 
-/// Both tables.
 fn tables_at<'a, I: Inputs>(
     alloc: Global,
     inputs: &mut I,
@@ -127,7 +125,6 @@ fn tables_at<'a, I: Inputs>(
     Ok((bytes, jobs))
 }
 
-/// What all files hold.
 fn texts_at<'a, I: Inputs>(
     alloc: Global,
     inputs: &mut I,
@@ -157,7 +154,6 @@ fn texts_at<'a, I: Inputs>(
     })
 }
 
-/// The bytes of a file that may be left out.
 pub(crate) fn some_bytes(text: &Option<Vec<u8>>) -> Option<&[u8]>
     ensures { option_map (λ t. t.now) result ≡ option_map (λ v. v.items) text.now }
 {
@@ -167,8 +163,7 @@ pub(crate) fn some_bytes(text: &Option<Vec<u8>>) -> Option<&[u8]>
     }
 }
 
-/// The status of a call whose files their readers answer so: in them something may be odd, and faults
-/// alone may be asked for.
+/// The status, where the readers' result is `plan` and something may be odd.
 fn status_for(plan: &Result<Option<Plan>, Refusal>, is_odd: bool, faults_only: bool) -> Status
     ensures value { (table : List ℕ) (jobs declarations : Option (List ℕ))
         → Finds plan.now table jobs declarations
@@ -183,7 +178,6 @@ fn status_for(plan: &Result<Option<Plan>, Refusal>, is_odd: bool, faults_only: b
     }
 }
 
-/// What is answered of all files.
 fn show(alloc: Global, request: &LintWords<'_>, texts: &Texts) -> Result<Response, AllocError>
     ensures value { IfOk result (IsLinted texts.now.table.items
         (option_map (λ v. v.items) texts.now.jobs)
@@ -199,21 +193,19 @@ fn show(alloc: Global, request: &LintWords<'_>, texts: &Texts) -> Result<Respons
     Ok(Response::told(status, text, Bytes::new(alloc)))
 }
 
-/// Whether nothing odd has that name.
 fn is_unknown(name: &str) -> bool
     ensures { result ≡ is_none (odd_named name.now) }
 {
     odd_name(name).is_none()
 }
 
-/// The first of the names in a word, which stand between commas, that nothing odd has.
 fn unknown_name_in(word: &str) -> Option<&str>
     ensures { option_map (λ name. name.now) result ≡ no_name_in word.now }
 {
     word.split(',').find(|name| is_unknown(name))
 }
 
-/// The first of the names in these words that nothing odd has.
+/// The first name in the words that no odd finding has.
 fn unknown_in<'w>(words: &[&'w str]) -> Option<&'w str>
     ensures some { IfSome result
         (λ name. IsNoName (map (λ word. word.now) words.now) name.now) }
@@ -227,7 +219,6 @@ fn unknown_in<'w>(words: &[&'w str]) -> Option<&'w str>
     None
 }
 
-/// What is answered where nothing odd has that name.
 fn unknown_name(alloc: Global, name: &str) -> Result<Response, AllocError>
     ensures { IfOk result (λ r. (r.status ≡ 4) × (r.out ≡ [])) }
 {
@@ -235,7 +226,6 @@ fn unknown_name(alloc: Global, name: &str) -> Result<Response, AllocError>
     Ok(Response::no_call(alloc, no_such_name(alloc, name, near)?))
 }
 
-/// What is answered of all files, where odd findings have the names that are asked for.
 fn lint_files<I: Inputs>(
     alloc: Global,
     request: &LintWords<'_>,
@@ -255,8 +245,9 @@ fn lint_files<I: Inputs>(
     }
 }
 
-/// The answer to `lint TABLE [DECLS] [--anacrontab FILE] [--zone FILE] [--only NAME]..
-/// [--except NAME].. [--faults-only]`, where the next changes of clocks are those after `now`.
+/// Answers `lint TABLE [DECLS] [--anacrontab FILE] [--zone FILE] [--only NAME].. [--except NAME]..
+/// [--faults-only]`; `--zone` looks for changes of clocks after `now`. The only error is out of
+/// memory.
 pub fn answer_lint<I: Inputs>(
     alloc: Global,
     request: &LintWords<'_>,

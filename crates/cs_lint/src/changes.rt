@@ -12,30 +12,28 @@ use jiff_core::{Error, Timestamp};
 use jiff_tz::Tzif;
 use std::alloc::{AllocError, Global};
 
-/// A change of the clocks of a time zone, as they show it: all minutes from `first` up to `end`,
-/// without that, are skipped, or are shown twice.
+/// A change of a zone's clocks: they skip the minutes from `first` to before `end`, or show them
+/// twice.
 #[derive(Clone, Copy)]
 pub(crate) struct Change {
-    /// Whether the clocks are put forward past these minutes, and not back to them.
+    /// Whether the clocks skip these minutes.
     pub(crate) is_forward: bool,
-    /// The first of them, by the clocks of the zone.
     pub(crate) first: Minute,
-    /// The first after them.
     pub(crate) end: Minute,
 }
 
-/// So many transitions are looked at: two years, where there is summer time.
+/// Transitions that are looked at: two years, where there is summer time.
 const TRANSITIONS: usize = 4;
 
-/// The first minute that begins at this second of clocks or after it, so far ahead of UTC, if it is
-/// a civil minute.
+/// The first minute that begins at or after this UTC second, by clocks `offset` seconds ahead of
+/// UTC; none if it is out of range.
 fn minute_from(second: i64, offset: i32) -> Option<Minute> {
     let number = (i128::from(second) + i128::from(offset) + 59).div_euclid(60);
     Minute::new(u64::try_from(number).ok()?)
 }
 
-/// The change of clocks at a second, which were so far ahead of UTC before it and are after, if it
-/// is one.
+/// The change at a UTC second, by the clocks' offsets before and after it, in seconds; none where
+/// no whole minute is skipped or shown twice.
 fn change_at(second: i64, before: i32, after: i32) -> Option<Change> {
     let first = minute_from(second, before.min(after))?;
     let end = minute_from(second, before.max(after))?;
@@ -49,7 +47,6 @@ fn change_at(second: i64, before: i32, after: i32) -> Option<Change> {
     })
 }
 
-/// The changes at the next transitions after an instant.
 fn next_changes(alloc: Global, zone: &Tzif, after: Timestamp) -> Result<Vec<Change>, AllocError> {
     let mut changes = Vec::new(alloc);
     let (mut at, mut before) = (after, zone.to_offset(after).seconds);
@@ -67,9 +64,8 @@ fn next_changes(alloc: Global, zone: &Tzif, after: Timestamp) -> Result<Vec<Chan
     Ok(changes)
 }
 
-/// The changes of the clocks of a zone at its next four transitions after an instant, in order, two
-/// years of them where there is summer time. `zone` is what the file at that path holds (TZif, RFC
-/// 9636).
+/// The changes of clocks at a zone's next four transitions after an instant, in order. `zone` is
+/// the content of the file at `path` (TZif, RFC 9636).
 pub(crate) fn changes_in<'a>(
     alloc: Global,
     path: &'a str,

@@ -1,4 +1,4 @@
-//! What is odd in a crontab where the clocks of a time zone change, by what Debian's cron(8) does.
+//! Lines of a crontab that are due where clocks change, and what Debian's cron(8) does with them.
 use crate::changes::Change;
 use crate::wanted::Wanted;
 use cs_civil::{Minute, date_text};
@@ -6,11 +6,11 @@ use cs_diagnostics::{Done, Findings, Span, Words};
 use cs_schedule::{Part, Schedule};
 use std::alloc::Global;
 
-/// From so many minutes on, cron takes a change as that of a clock that was put right.
+/// cron(8) takes a change of so many minutes or more as a correction of the clock.
 const THREE_HOURS: u64 = 180;
 
 impl Change {
-    /// Whether it's one of summer time, in whose minutes a command is due.
+    /// Whether the command is due in the minutes of a change of summer time.
     fn meets(&self, schedule: &Schedule) -> bool {
         let (first, end) = (self.first.number(), self.end.number());
         if end.saturating_sub(first) >= THREE_HOURS {
@@ -25,8 +25,8 @@ impl Change {
         false
     }
 
-    /// What is said of it: its date and minutes, and what cron then does with a command whose minute
-    /// field begins with `*` or not. The only error is out of memory.
+    /// What the clocks do, and what cron then does with a command, by whether its minute field
+    /// begins with `*`.
     fn words(&self, alloc: Global, starred: bool) -> Words {
         let (first, end) = (date_text(self.first), date_text(self.end));
         let on = str::from_utf8(&first[..10]).unwrap_or("");
@@ -45,7 +45,6 @@ impl Change {
     }
 }
 
-/// The first change that goes forward, or back, and in whose minutes a command is due.
 fn first_met<'c>(
     changes: &'c [Change],
     is_forward: bool,
@@ -59,13 +58,9 @@ fn first_met<'c>(
     None
 }
 
-/// Adds the changes that a command at that place meets: where it isn't due each hour, the first one
-/// each way.
-///
-/// It's shown where the command is due in minutes that a change skips or shows twice, with the date,
-/// the minutes and what Debian's cron then does: a line whose minute is fixed it runs once, and one
-/// with `*` in front of its minute as the clocks show (its `cron(8)`). A change of three hours or
-/// more isn't one of summer time.
+/// Reports the first change each way in whose minutes the command is due, unless its hour field
+/// begins with `*`. Debian's cron runs a line with a fixed minute once, and one with `*` in its
+/// minute field as the clocks show (its `cron(8)`).
 pub(crate) fn find_changes(
     findings: &mut Findings,
     wanted: &Wanted<'_>,

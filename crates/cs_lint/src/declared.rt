@@ -1,5 +1,4 @@
-//! Declarations: what is wrong or odd with their entries by themselves, beside each other and beside
-//! the tables.
+//! Faults and oddities of the entries of declarations, by themselves and beside the tables.
 use crate::entry::Tell;
 use crate::lines::Shift;
 use crate::table::Table;
@@ -10,23 +9,22 @@ use indexmap::IndexSet;
 use serde_json::{Error, Value};
 use std::alloc::{AllocError, Global};
 
-/// Declarations that are looked at.
 #[derive(Drop)]
 pub(crate) struct Declared<'v> {
     pub(crate) tell: Tell<'v>,
     /// The anacron jobs that have entries.
     pub(crate) identifiers: IndexSet<&'v [u8]>,
-    /// The lines that entries name, and those of them that are left out.
+    /// The lines that entries name, and those that `left_out` names.
     pub(crate) lines: IndexSet<i128>,
     pub(crate) left_out: IndexSet<i128>,
-    /// Whether it's known that there are no others, and no entry by default.
+    /// Whether each set is known to be complete; of jobs and lines also that there is no default.
     pub(crate) has_all_identifiers: bool,
     pub(crate) has_all_lines: bool,
     pub(crate) has_all_left_out: bool,
 }
 
 impl<'v> Declared<'v> {
-    /// What is found in declarations, which are that JSON value, beside tables. There may be no
+    /// Checks declarations, which are `json`, beside the tables; `jobs` is none without an
     /// anacrontab.
     pub(crate) fn at(
         alloc: Global,
@@ -89,7 +87,6 @@ impl<'v> Declared<'v> {
         self.look_at_names(entries, shift, table)
     }
 
-    /// Adds what is wrong with the identifiers of entries.
     fn look_at_identifiers(&mut self, entries: &[Entry<'v>], jobs: Option<&Table<'_>>) -> Done {
         for entry in entries {
             if let Some((name, span)) = entry.text(Kind::Anacron, "id") {
@@ -107,7 +104,8 @@ impl<'v> Declared<'v> {
         Ok(())
     }
 
-    /// Adds which groups no entry is in: nothing else is wrong, which a slip in an entry may be.
+    /// Reports groups without entries. The caller makes sure that nothing else is wrong, as a slip
+    /// in an entry may be the cause.
     fn find_unused_groups(&mut self, entries: &[Entry<'v>]) -> Done {
         let alloc = self.tell.findings.alloc;
         let cron = texts_in(alloc, entries, Kind::Cron, "group")?;

@@ -1,10 +1,9 @@
-//! What is found in declarations, as far as it's wanted.
 use crate::wanted::Wanted;
 use cs_diagnostics::{Done, Entry, Findings, Span, parts_in, quoted};
 use indexmap::IndexSet;
 use std::fmt::Display;
 
-/// What is found in declarations, which are those bytes.
+/// Findings in the declarations of these bytes.
 #[derive(Drop)]
 pub(crate) struct Tell<'w> {
     pub(crate) findings: Findings,
@@ -13,12 +12,12 @@ pub(crate) struct Tell<'w> {
 }
 
 impl Tell<'_> {
-    /// Adds something odd of that name, where it's shown.
+    /// Adds an odd finding of that name, if it is wanted.
     pub(crate) fn odd(&mut self, span: Span, name: &str, why: impl Display + Drop) -> Done {
         self.wanted.odd(&mut self.findings, span, name, why)
     }
 
-    /// Adds which members an entry has more than once.
+    /// Reports members that an entry has twice.
     pub(crate) fn find_again(&mut self, entry: &Entry<'_>) -> Done {
         let mut counted = IndexSet::new(self.findings.alloc);
         for (name, part) in entry.object.members.iter().rev() {
@@ -40,7 +39,7 @@ impl Tell<'_> {
         Ok(())
     }
 
-    /// The same of each of some entries, and of their parts.
+    /// The same for entries and their parts.
     pub(crate) fn find_again_in(&mut self, entries: &[Entry<'_>]) -> Done {
         for entry in entries {
             self.find_again(entry)?;

@@ -1,4 +1,4 @@
-//! What is found in the files of a call.
+//! Findings in all files of a call.
 use crate::answer::some_bytes;
 use crate::changes::Change;
 use crate::declared::Declared;
@@ -12,27 +12,25 @@ use cs_files::are_jobs;
 use cs_place::Place;
 use std::alloc::{AllocError, Global};
 
-/// What the files of a call hold.
 #[derive(Drop)]
 pub(crate) struct Texts {
     pub(crate) table: Vec<u8>,
     pub(crate) jobs: Option<Vec<u8>>,
     pub(crate) declarations: Option<Vec<u8>>,
-    /// The next changes of the clocks of the time zone; none without one.
+    /// The next changes of the zone's clocks; none without `--zone`.
     pub(crate) changes: Vec<Change>,
 }
 
-/// What is found in the files of a call.
 #[derive(Drop)]
 struct Found {
     table: Findings,
-    /// What is found in the crontab where clocks change.
+    /// Those of the crontab where clocks change, printed last.
     clock: Findings,
     jobs: Findings,
     declared: Findings,
 }
 
-/// What is found in declarations, and beside them in both tables.
+/// Checks the declarations, and both tables beside them.
 fn look_at_declarations(
     alloc: Global,
     bytes: &[u8],
@@ -50,7 +48,6 @@ fn look_at_declarations(
 }
 
 impl Found {
-    /// What is found in the texts, where that is known of the crontab.
     fn of<'a>(
         alloc: Global,
         texts: &'a Texts,
@@ -93,7 +90,7 @@ impl Found {
         })
     }
 
-    /// Adds why the files are refused, where nothing says it yet.
+    /// Adds the readers' refusal, unless a finding reports it already.
     fn keep(&mut self, refusal: &Refusal) -> Done {
         match refusal {
             Refusal::Table(first) => self.table.keep(first),
@@ -103,9 +100,9 @@ impl Found {
         }
     }
 
-    /// What is said of it: file after file, with notes on the lines of the crontab that stand at
-    /// those places; then where clocks change. Of a crontab that reads as an anacrontab this is said
-    /// first, and this alone where the crontab's reader refuses it.
+    /// The report: file after file, then changes of clocks; `places` are those of a gathered
+    /// crontab. If the crontab reads as an anacrontab this comes first, and alone if its reader
+    /// refuses it.
     fn text(
         &self,
         alloc: Global,
@@ -149,16 +146,12 @@ impl Found {
     }
 }
 
-/// Everything that is wrong or odd in a crontab, an anacrontab and declarations, as far as there
-/// are any, of which their readers answer that; and whether something in it is odd.
+/// The report of all files, and whether something in them is odd.
 ///
-/// The text has the findings of the crontab, then those of the anacrontab, then those of the
-/// declarations, each as [`Findings::tell`] does, and where it's about a line of a gathered table
-/// with the place that the line comes from. What is wrong begins with the fault's number and name,
-/// as the readers answer it. Not only the first fault is reported: of a line each field and each
-/// item by itself, of declarations each member and each entry, and of both what doesn't fit
-/// together. What is odd is reported as far as it's wanted. A table of more than 1 MiB isn't looked at
-/// any further. The only error is out of memory.
+/// A fault begins with its number and name, as the reader gives them. All faults are reported, not
+/// only the first: of each field and item of a line, of each member and entry of declarations, and
+/// of all that doesn't fit together. Odd findings are reported if they are wanted. A table of more
+/// than 1 MiB isn't checked any further.
 pub(crate) fn told_of(
     alloc: Global,
     request: &LintWords<'_>,

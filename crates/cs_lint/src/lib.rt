@@ -1,4 +1,4 @@
-//! All that is wrong or odd in a crontab, an anacrontab and declarations, each with its place.
+//! Finds all that is wrong or odd in crontabs, anacrontabs and declarations, with its place.
 #![tactic(auto)]
 
 mod answer;

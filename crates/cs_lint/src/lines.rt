@@ -1,4 +1,4 @@
-//! The lines of the crontab that entries name: by number, by command or by both.
+//! The lines that entries name by number, by command or by both.
 use crate::declared::Declared;
 use crate::parts::find_moved;
 use crate::table::{Begun, Table};
@@ -10,10 +10,10 @@ use cs_plan::{DeclFault, MAX_MINUTES};
 use cs_schedule::least_gap;
 use std::alloc::Global;
 
-/// How far into two commands they are told from their beginnings.
+/// Commands are shown from their start if they differ within so many bytes.
 const MAX_FRONT: usize = 40;
 
-/// The number and the command of an entry, where the line of that number has none or another one.
+/// The number and the command of an entry whose line lacks this command.
 fn apart<'v>(entry: &Entry<'v>, table: &Table<'_>) -> Option<(i128, &'v str)> {
     if !entry.names_lines() {
         return None;
@@ -25,8 +25,8 @@ fn apart<'v>(entry: &Entry<'v>, table: &Table<'_>) -> Option<(i128, &'v str)> {
     }
 }
 
-/// The least number of an entry whose line has another command, with the entry's command, where
-/// the lines of two or more entries have another one.
+/// The entry of least number among those whose lines lack their commands; none if there is only one
+/// such entry.
 fn first_apart<'v>(entries: &[Entry<'v>], table: &Table<'_>) -> Option<(i128, &'v str)> {
     let (mut first, mut are_many): (Option<(i128, &'v str)>, bool) = (None, false);
     for entry in entries {
@@ -44,7 +44,7 @@ fn first_apart<'v>(entries: &[Entry<'v>], table: &Table<'_>) -> Option<(i128, &'
     if are_many { first } else { None }
 }
 
-/// How far the nearest line of the command is from that number.
+/// How many lines down the nearest line of the command is.
 fn nearest_step(table: &Table<'_>, from: i128, told: &str) -> Option<i128> {
     let mut nearest: Option<i128> = None;
     for begun in table.begun.iter().rev() {
@@ -62,7 +62,7 @@ fn nearest_step(table: &Table<'_>, from: i128, told: &str) -> Option<i128> {
     nearest
 }
 
-/// Lines that have moved: from which on, and how far down the table.
+/// Lines from a number on that have moved, and how far down.
 #[derive(Clone, Copy)]
 pub(crate) struct Shift {
     from: i128,
@@ -70,8 +70,8 @@ pub(crate) struct Shift {
 }
 
 impl Shift {
-    /// What moved the commands of two or more entries away from their lines: as far as the first
-    /// of them is from the nearest line that has it, if all moved so.
+    /// The move of the first such entry to the nearest line of its command, if it explains all
+    /// later entries.
     pub(crate) fn of(entries: &[Entry<'_>], table: &Table<'_>) -> Option<Shift> {
         if !table.is_whole {
             return None;
@@ -127,9 +127,8 @@ fn first_to_tell<'e, 'v>(entries: &'e [Entry<'v>], table: &Table<'_>) -> Option<
 }
 
 impl<'v> Declared<'v> {
-    /// Takes the lines that entries name, and adds what is wrong or odd with the names: once that
-    /// lines have moved, of the entries that this explains at the one whose fault the readers
-    /// answer.
+    /// Takes the lines that entries name, and checks the names. A move of lines is reported once,
+    /// at the entry that the reader would refuse.
     pub(crate) fn look_at_names(
         &mut self,
         entries: &[Entry<'v>],
@@ -181,7 +180,7 @@ impl<'v> Declared<'v> {
         }
     }
 
-    /// Adds that no line has the command of an entry without a number, or that several have it.
+    /// Checks an entry without a number: one line has to have its command.
     fn find_nowhere(&mut self, entry: &Entry<'v>, table: &Table<'_>) -> Done {
         let Some((told, span)) = entry.object.text("command") else {
             return Ok(());
@@ -208,7 +207,7 @@ impl<'v> Declared<'v> {
         }
     }
 
-    /// Adds that the line of an entry's number has no command or another one.
+    /// Checks that the line of the entry's number has its command.
     fn find_apart(&mut self, entry: &Entry<'v>, table: &Table<'_>, advice: Option<&str>) -> Done {
         let alloc = self.tell.findings.alloc;
         let Some((line, span)) = entry.object.whole("line") else {
@@ -238,8 +237,7 @@ impl<'v> Declared<'v> {
         }
     }
 
-    /// Adds that the line of an entry has another schedule than it says, that runs of its command
-    /// may overlap, and which parts came or went.
+    /// Checks the entry's schedule, longest time and parts against its line.
     fn look_beside(&mut self, entry: &Entry<'v>, begun: &Begun<'_>, table: &Table<'_>) -> Done {
         let may_be = match entry.object.text("command") {
             Some((told, _)) => begun.may_be(told),
@@ -265,7 +263,7 @@ impl<'v> Declared<'v> {
         }
     }
 
-    /// Adds that runs of an entry's command may overlap, where they take no lock.
+    /// Reports that runs may overlap, where they take no lock.
     fn find_overlap(&mut self, entry: &Entry<'v>, begun: &Begun<'_>) -> Done {
         let takes_lock = match entry.object.text("mode") {
             Some((mode, _)) => mode != "none",
@@ -290,7 +288,7 @@ impl<'v> Declared<'v> {
         }
     }
 
-    /// Adds that entries name their lines by number alone, where others have commands.
+    /// Reports entries without a command, where others have one.
     fn find_unbound(&mut self, entries: &[Entry<'v>]) -> Done {
         let (mut first, mut number, mut is_any_bound) = (None, 0usize, false);
         for entry in entries {
@@ -318,7 +316,7 @@ impl<'v> Declared<'v> {
     }
 }
 
-/// The line that an entry names, where it's known, and where it names it.
+/// The line that an entry names, and the place of the name; none unless it is one line.
 fn line_of(entry: &Entry<'_>, shift: Option<Shift>, table: &Table<'_>) -> Option<(i128, Span)> {
     if let Some((number, span)) = entry.object.whole("line") {
         let moved = match shift {
@@ -332,7 +330,7 @@ fn line_of(entry: &Entry<'_>, shift: Option<Shift>, table: &Table<'_>) -> Option
     (first == last).then_some((i128::from(first), span))
 }
 
-/// That a line has no command, and what to do about it: the advice, or which line may be meant.
+/// The words for a line without a command, with the advice, or with the nearest line that has one.
 fn lineless_words(alloc: Global, table: &Table<'_>, line: i128, advice: Option<&str>) -> Words {
     let (mut near, mut least) = (None, u128::MAX);
     for begun in table.begun.iter() {
@@ -349,7 +347,8 @@ fn lineless_words(alloc: Global, table: &Table<'_>, line: i128, advice: Option<&
     }
 }
 
-/// The byte at which the first word begins in which two commands differ; 0 where it isn't far off.
+/// The byte at which the first different word of two commands begins; 0 if it is within
+/// `MAX_FRONT`.
 fn first_apart_word(is: &[u8], told: &[u8]) -> usize {
     let mut from = 0usize;
     for (at, (a, b)) in told.iter().zip(is.iter()).enumerate() {

@@ -1,12 +1,12 @@
-//! What is odd in a line of a crontab, by itself: it can be read, but is seldom meant.
+//! What is odd in a line of a crontab by itself: valid, but seldom meant.
 use cs_diagnostics::{Span, is_word_line, word_after, words};
 use cs_table::text::{digits, is_among, is_blank, trim_end};
 
-/// The most bytes that a command has in Debian's cron.
+/// Debian's cron takes commands of at most so many bytes.
 const MAX_COMMAND: usize = 998;
 
-/// Something that may be odd in a line: whether it is, where, its name as `cronsafe explain` lists
-/// it, and why it's odd, with what to change.
+/// Whether the line is odd in this way, the place, the name in `cronsafe explain`, and why it is
+/// odd with what to change.
 pub(crate) type Oddity = (bool, Span, &'static str, &'static str);
 
 /// Why a step of minutes is odd: within the hour, and past it.
@@ -15,21 +15,20 @@ const HOUR_STEP: [&str; 2] = [
     "this step is past the hour, so the line is due at minute 0 alone: write `0`",
 ];
 
-/// The same of hours.
 const DAY_STEP: [&str; 2] = [
     "the step begins anew each day, after a shorter gap: take a divisor of 24",
     "this step is past the day, so the line is due in hour 0 alone: write `0`",
 ];
 
-/// The same of days, which a step past the month leaves their first one.
+/// A step past the month leaves day 1 alone, which is the same advice.
 const MONTH_STEP: [&str; 2] =
     ["the step begins anew each month, after another gap: list the days"; 2];
 
-/// Weekdays as tables of six fields have them.
+/// Weekdays in tables of six fields.
 const DAYS: [&[u8]; 7] = [b"SUN", b"MON", b"TUE", b"WED", b"THU", b"FRI", b"SAT"];
 
-/// Whether the command after five fields begins with what reads as a sixth one: `?`, a weekday in
-/// capitals, or numbers, beginning with a digit or `*`.
+/// Whether the command begins with what reads as a sixth field: `?`, a weekday in capitals, or
+/// numbers that begin with a digit or `*`.
 fn has_sixth(line: &[u8]) -> bool {
     let word = word_after(line, 5).bytes(line);
     let first = word.first().copied().unwrap_or(b'-');
@@ -48,8 +47,8 @@ fn has_sixth(line: &[u8]) -> bool {
     true
 }
 
-/// The text of a field, counted from 0: nothing where a word such as `@daily` stands in place of
-/// the fields, or a sixth one follows.
+/// A field, counted from 0; empty where a word such as `@daily` replaces the fields, or a sixth one
+/// follows.
 fn field(line: &[u8], number: usize) -> &[u8] {
     if is_word_line(line) || has_sixth(line) {
         return &[];
@@ -57,8 +56,8 @@ fn field(line: &[u8], number: usize) -> &[u8] {
     word_after(line, number).bytes(line)
 }
 
-/// That a field is `*/N`, and what it goes round isn't a multiple of N; with why that is odd where N
-/// is less, and where it's more.
+/// Whether the field is `*/N`, and `round` isn't a multiple of N. The texts are for N up to `round`
+/// and above.
 fn uneven(line: &[u8], number: usize, round: u32, texts: [&'static str; 2]) -> Oddity {
     let [less, more] = texts;
     let field = field(line, number);
@@ -73,8 +72,8 @@ fn uneven(line: &[u8], number: usize, round: u32, texts: [&'static str; 2]) -> O
     )
 }
 
-/// The byte at which the first `%` stands that no backslash escapes, or the end; and in front of it
-/// the last `#` after a blank, if no quote, backquote or backslash stands after it.
+/// The index of the first `%` without a backslash, or the length; and that of the last `#` before
+/// it that follows a blank, with no quote, backquote or backslash after it.
 fn ends_in(command: &[u8]) -> (usize, Option<usize>) {
     let (mut comment, mut last) = (None, 0u8);
     for (at, byte) in command.iter().enumerate() {

@@ -1,14 +1,13 @@
-//! The parts of a command that run-parts(8) runs, as an entry of `cron` declares them.
+//! The declared parts of a command that run-parts(8) runs.
 use crate::entry::Tell;
 use cs_diagnostics::{Done, Entry, Kind, Span, parts_in, quoted, shown, texts_in};
 use cs_place::Place;
 use indexmap::{IndexMap, IndexSet};
 
-/// What to do about a part that came or went.
 const ADVICE: &str = "as 'cronsafe draft --update' does";
 
-/// Adds which parts of an entry the line of a place has no more, and which it has besides, where
-/// it's known that the entry has no others.
+/// Reports parts of the entry that its line doesn't have, and, unless a part lacks a name, those of
+/// the line that the entry doesn't have.
 pub(crate) fn find_moved(tell: &mut Tell<'_>, entry: &Entry<'_>, place: &Place) -> Done {
     let parts = parts_in(tell.findings.alloc, tell.bytes, entry)?;
     let names = texts_in(tell.findings.alloc, parts.as_slice(), Kind::Part, "name")?;

@@ -1,5 +1,5 @@
-//! What is odd between the commands of a plan and what is declared of them: the locks that they take
-//! by flock(1), and the time that timeout(1) allows them.
+//! What is odd between a plan's commands and their entries: the locks of flock(1), and the time
+//! that timeout(1) allows.
 use crate::wanted::Wanted;
 use cs_civil::Bytes;
 use cs_command::{Lock, asked_for, lock_of};
@@ -8,28 +8,25 @@ use cs_history::Mode;
 use cs_plan::Plan;
 use std::alloc::{AllocError, Global};
 
-/// A command of a plan: the lock that it takes itself, and what is declared of it.
+/// A command of a plan: its own lock, and what is declared of it.
 #[derive(Drop)]
 pub(crate) struct Held {
-    /// The number of its line.
     pub(crate) number: u32,
-    /// The file and the mode of the lock that it takes by flock(1), if it takes one.
+    /// The file and the mode of the lock that it takes by flock(1).
     own: Option<(Bytes, Mode)>,
-    /// Whether it takes none, and names no program that locks files either.
+    /// Whether it neither takes a lock nor names a program that locks files.
     is_bare: bool,
-    /// The number of its group, if it's in one.
     group: Option<u8>,
-    /// How it treats the lock of its group.
     mode: Mode,
-    /// Its longest time in minutes, as it's declared.
+    /// Its declared longest time in minutes.
     max: u16,
-    /// The minutes that its own timeout(1) allows it; without one, the same.
+    /// The minutes that its own timeout(1) allows it; without one, `max`.
     allowed: u64,
-    /// Whether it's the first whose entry has a command of several lines and no schedule.
+    /// Whether it is the first whose entry gives a command of several lines, and no schedule.
     is_untimed: bool,
 }
 
-/// The commands of a plan, in order of line. The only error is out of memory.
+/// The commands of a plan, in the order of lines.
 pub(crate) fn held_in(alloc: Global, plan: &Plan) -> Result<Vec<Held>, AllocError> {
     let mut all = Vec::new(alloc);
     let mut number = 0u16;
@@ -56,7 +53,7 @@ pub(crate) fn held_in(alloc: Global, plan: &Plan) -> Result<Vec<Held>, AllocErro
 }
 
 impl Held {
-    /// Why its mode isn't that of the lock that it takes, and what to set, where it takes one.
+    /// Why its mode isn't that of its own lock, and what to set.
     fn other_mode(&self) -> Option<&'static str> {
         let Some((_, own)) = &self.own else {
             return None;
@@ -78,8 +75,8 @@ impl Held {
         }
     }
 
-    /// Whether a command above locks its file in another group, whether one above in its group locks
-    /// another file, and whether any takes a lock itself.
+    /// Whether a command above locks its file in another group, whether one above in its group
+    /// locks another file, and whether any command takes a lock itself.
     fn beside(&self, all: &[Held]) -> (bool, bool, bool) {
         let (mut has_groups, mut has_files, mut is_any_locked) = (false, false, false);
         for other in all {
@@ -97,7 +94,6 @@ impl Held {
         (has_groups, has_files, is_any_locked)
     }
 
-    /// Adds what is odd about it among all, where it stands.
     pub(crate) fn find_odd(
         &self,
         findings: &mut Findings,
@@ -160,8 +156,7 @@ impl Held {
     }
 }
 
-/// Whether a command that is started at startup may take the lock of a group that one of all others
-/// takes. The only error is out of memory.
+/// Whether a startup command may take the file lock of a declared group.
 pub(crate) fn may_take(alloc: Global, all: &[Held], command: &[u8]) -> Result<bool, AllocError> {
     if all.is_empty() {
         return Ok(false);

@@ -1,4 +1,4 @@
-//! What the readers of the files refuse.
+//! The first fault of the readers.
 ghost use Rattle.std.specs.Prelude.{ℕ, List, IfOk, Ok};
 ghost use Rattle.std.specs.Option.{option_map};
 ghost use Rattle.cs_crontab.specs.Faults.{Means};
@@ -12,27 +12,22 @@ use cs_plan::{DeclError, Plan};
 use cs_report::first_behind_user;
 use std::alloc::{AllocError, Global};
 
-/// Why the files of a call can't be used: the first fault that their readers answer.
 #[derive(Clone, Copy)]
 pub(crate) enum Refusal {
-    /// Of the crontab.
     Table(FirstFault<'static>),
-    /// Of the anacrontab.
     Jobs(FirstFault<'static>),
     /// Of the declarations, by themselves or beside the tables.
     Plan(FirstFault<'static>),
 }
 
-/// What the readers of the files of a call answer.
 #[derive(Drop)]
 pub(crate) struct Looked {
-    /// The plan, if there are declarations; or why they refuse the files.
+    /// None without declarations.
     pub(crate) plan: Result<Option<Plan>, Refusal>,
-    /// The number of the line whose command seems to stand after a user, if one does.
+    /// The number of the first line whose command seems to follow a user.
     pub(crate) user: Option<u32>,
 }
 
-/// The crontab, or why it's refused.
 fn table_or_refusal(
     alloc: Global,
     text: &[u8],
@@ -56,7 +51,6 @@ fn table_or_refusal(
     }
 }
 
-/// The jobs of an anacrontab, or why it's refused; no jobs where there is none.
 fn jobs_or_refusal(
     alloc: Global,
     text: Option<&[u8]>,
@@ -83,8 +77,7 @@ fn jobs_or_refusal(
     }
 }
 
-/// The plan; or why declarations are refused, by themselves or beside the tables: the name of the
-/// fault alone.
+/// The fault of declarations has no place: only its name is used.
 fn plan_or_refusal(
     alloc: Global,
     table: Crontab,
@@ -109,8 +102,7 @@ fn plan_or_refusal(
     }
 }
 
-/// The plan that the files beside a crontab make, if there are declarations; or the first fault of
-/// the anacrontab and of the declarations, in this order.
+/// The first fault of the anacrontab, then of the declarations.
 fn plan_beside(
     alloc: Global,
     table: Crontab,
@@ -133,7 +125,7 @@ fn plan_beside(
     }
 }
 
-/// What the readers of the crontab, the anacrontab and the declarations answer, in this order.
+/// Reads the crontab, the anacrontab and the declarations, in this order.
 pub(crate) fn look_at(
     alloc: Global,
     table: &[u8],

@@ -1,4 +1,4 @@
-//! A crontab or an anacrontab that is looked at line by line.
+//! The check of a crontab or an anacrontab, line by line.
 use crate::changes::Change;
 use crate::clock::find_changes;
 use crate::declared::Declared;
@@ -22,16 +22,16 @@ use indexmap::IndexMap;
 use std::alloc::{AllocError, Global};
 use std::fmt::Display;
 
-/// What is known of a crontab beside its bytes.
+/// What is known of a crontab besides its bytes.
 #[derive(Clone, Copy)]
 pub(crate) struct Beside<'a> {
     /// The places of its lines, if it was gathered.
     pub(crate) places: &'a [Place],
-    /// The number of the line whose command seems to stand after a user, if one does.
+    /// The number of the first line whose command seems to follow a user.
     pub(crate) user: Option<u32>,
     /// The commands of its plan, if there is one.
     pub(crate) commands: &'a [Held],
-    /// The next changes of the clocks of the time zone, if there is one.
+    /// The next changes of the zone's clocks; none without `--zone`.
     pub(crate) changes: &'a [Change],
 }
 
@@ -39,11 +39,11 @@ pub(crate) struct Beside<'a> {
 #[derive(Drop)]
 pub(crate) struct Begun<'a> {
     pub(crate) number: u32,
-    /// The place of its first word, or of the identifier of a job.
+    /// The place of its first word, or of a job's identifier.
     place: Span,
-    /// When its command is due: nothing for a job, and where it can't be read.
+    /// None for a job, and where it can't be read.
     pub(crate) when: Option<When>,
-    /// Its command or identifier, if it can be read.
+    /// Its command or identifier; none where it can't be read.
     pub(crate) name: Option<&'a [u8]>,
 }
 
@@ -52,44 +52,40 @@ impl<'a> Begun<'a> {
         self.name == Some(command.as_bytes())
     }
 
-    /// Whether its command is that one, or can't be read.
+    /// The same, or it can't be read.
     pub(crate) fn may_be(&self, command: &str) -> bool {
         self.name.is_none() || self.is(command)
     }
 }
 
-/// A table that is looked at.
 #[derive(Drop)]
 pub(crate) struct Table<'a> {
-    /// What was found so far.
     pub(crate) findings: Findings,
-    /// What was found where the clocks change.
+    /// Findings where clocks change, printed last.
     pub(crate) clock: Findings,
     wanted: Wanted<'a>,
     kind: TableKind,
     pub(crate) beside: Beside<'a>,
-    /// The line that is looked at, its number, and the byte of the table at which it begins.
+    /// The current line, its number, and its offset in the table's bytes.
     line: &'a [u8],
     number: u32,
     start: usize,
-    /// The names of what isn't odd in it, with commas between them, as the line above has them.
+    /// The names after `# cronsafe: except` on the line above, which aren't odd in this line.
     except: &'a str,
-    /// The lines that begin as a command or a job does, in their order.
     pub(crate) begun: Vec<Begun<'a>>,
-    /// The commands or identifiers, each with the first and the last line on which it stands.
+    /// Commands or identifiers, each with the numbers of its first and last line.
     names: IndexMap<&'a [u8], (u32, u32)>,
-    /// The lines of commands without leading blanks, each with the first number since a setting.
+    /// Lines of commands without leading blanks since the last setting, each with its first number.
     same: IndexMap<&'a [u8], u32>,
-    /// The number of the last setting's line, or 0.
     last_setting: u32,
-    /// Whether it isn't too long, and has no more commands or jobs than it may have.
+    /// Whether it is neither too long nor has too many commands or jobs.
     pub(crate) is_whole: bool,
     /// Whether each of its lines can be read.
     pub(crate) is_read: bool,
 }
 
 impl<'a> Table<'a> {
-    /// What is found in a table, of which that is known.
+    /// Checks a table; `beside` is what is known of it.
     pub(crate) fn at(
         alloc: Global,
         bytes: &'a [u8],
@@ -157,14 +153,14 @@ impl<'a> Table<'a> {
         }
     }
 
-    /// The line of that number, if a command begins on it.
+    /// The command that begins on that line.
     pub(crate) fn begun_on(&self, number: i128) -> Option<&Begun<'a>> {
         let before = |begun: &Begun<'_>| i128::from(begun.number) < number;
         let begun = self.begun.get(self.begun.partition_point(before))?;
         (i128::from(begun.number) == number).then_some(begun)
     }
 
-    /// The first and the last line that have that command or identifier, if any has.
+    /// The first and the last line of that command or identifier.
     pub(crate) fn lines_of(&self, name: &str) -> Option<(u32, u32)> {
         self.names.get(name.as_bytes()).copied()
     }
@@ -182,7 +178,6 @@ impl<'a> Table<'a> {
         wanted.odd(&mut self.findings, span.behind(self.start), name, why)
     }
 
-    /// Adds those of some oddities that are so.
     fn find_odd(&mut self, oddities: &[Oddity]) -> Done {
         for (is_so, place, name, why) in oddities {
             if *is_so {
@@ -218,7 +213,7 @@ impl<'a> Table<'a> {
         self.fault(word_from(self.line, 0), fault, why)
     }
 
-    /// Adds what is wrong with a line that can't be read, whose first fault this is.
+    /// Adds all faults of a line whose reader gives this first one.
     fn look_at_bad(&mut self, fault: &FirstFault<'_>) -> Done {
         if fault.name != LineFault::BadSetting.text() {
             self.is_read = false;
@@ -254,8 +249,8 @@ impl<'a> Table<'a> {
         }
     }
 
-    /// Keeps the names for the next line that a comment `# cronsafe: except NAMES` gives, and adds
-    /// which of them is no odd name.
+    /// Keeps the names of a comment `# cronsafe: except NAMES` for the next line, and reports
+    /// unknown ones.
     fn keep_exceptions(&mut self) -> Done {
         let line = self.line;
         self.except = "";
@@ -287,7 +282,7 @@ impl<'a> Table<'a> {
         self.begin(word_from(line, 0), Some(when), Some(command))
     }
 
-    /// Adds what is odd about a command by itself and beside what is known of the table.
+    /// Adds what is odd about a command by itself and in what is known of the table.
     fn look_beside(&mut self, when: &When, command: &[u8]) -> Done {
         let (line, number, beside, wanted) = (self.line, self.number, self.beside, self.wanted);
         let place = word_from(line, line.len().saturating_sub(command.len()));
@@ -314,7 +309,6 @@ impl<'a> Table<'a> {
         }
     }
 
-    /// Adds what is odd about the command's entry in a plan of these.
     fn find_planned(&mut self, commands: &[Held], place: Span) -> Done {
         let (number, wanted) = (self.number, self.wanted);
         for held in commands {
@@ -325,8 +319,8 @@ impl<'a> Table<'a> {
         Ok(())
     }
 
-    /// Adds that a line above says the same in the same environment: no setting is between the two,
-    /// and the table wasn't gathered from several.
+    /// Reports a line that is the same as one above, unless a setting between them may change it.
+    /// Gathered tables have other users' lines, which may be the same.
     fn find_same(&mut self) -> Done {
         let line = self.line;
         let place = Span::between(word_from(line, 0).from, line.len());
@@ -362,8 +356,7 @@ impl<'a> Table<'a> {
         self.odd(place, "", words)
     }
 
-    /// Adds that a setting of that name has no effect, if it's one that other daemons heed
-    /// (`crontab(5)`, `anacrontab(5)`).
+    /// Reports a setting without effect that other daemons heed (`crontab(5)`, `anacrontab(5)`).
     fn find_unheeded(&mut self, name: &[u8]) -> Done {
         let why = match str::from_utf8(name).unwrap_or("") {
             "CRON_TZ" => {
@@ -381,7 +374,7 @@ impl<'a> Table<'a> {
         self.odd(place, "", format_args!("{name} has no effect: {why}"))
     }
 
-    /// Looks at a line of an anacrontab: of one that is continued also at the rest.
+    /// Checks a line of an anacrontab; of a continued one also the text before the backslash.
     fn look_at_job_line(&mut self) -> Done {
         match read_job_line(self.line) {
             Err(wrong) if wrong.fault == JobFault::Continued => {
@@ -421,7 +414,7 @@ impl<'a> Table<'a> {
         }
     }
 
-    /// Adds which commands or jobs have no entry, or can't be in a plan.
+    /// Reports commands and jobs that have no entry, or can't be in a plan.
     pub(crate) fn find_beside(&mut self, declared: &Declared<'_>) -> Done {
         for begun in self.begun.iter() {
             let (number, line) = (begun.number, i128::from(begun.number));
@@ -453,7 +446,7 @@ impl<'a> Table<'a> {
     }
 }
 
-/// How many days the longest month of a schedule has that is due on no day.
+/// The days of the longest month of a schedule that is never due; none if it is due.
 fn longest_if_never_due(schedule: &Schedule) -> Option<u8> {
     let mut longest = 0u8;
     for kind in all_kinds() {
@@ -467,7 +460,6 @@ fn longest_if_never_due(schedule: &Schedule) -> Option<u8> {
     Some(longest)
 }
 
-/// A line without the backslashes at its end.
 fn without_backslashes(line: &[u8]) -> &[u8] {
     let mut end = 0usize;
     for (at, byte) in line.iter().enumerate() {
@@ -478,7 +470,7 @@ fn without_backslashes(line: &[u8]) -> &[u8] {
     Span::of(0, end).bytes(line)
 }
 
-/// What begins a comment with names of what isn't odd in the next line.
+/// Begins a comment with names of oddities that the next line may have.
 const EXCEPT: &[u8] = b"# cronsafe: except";
 
 const NO_NAME: &str = "nothing odd has this name: 'cronsafe explain' lists all names";

@@ -31,7 +31,6 @@ any_number t (h ∷ hs) = by (t h) (any_number t hs)
     by true rest = sym (lt-ltb 0 (1 + number_of t hs) (omega arith))
     by false rest = rest ∙ ap (nat_lt 0) (omega arith)
 
--- tests that agree of each have one answer
 any_same : (s t : Hold → Bool) (hs : List Hold) → ((h : Hold) → s h ≡ t h) → list_any s hs ≡ list_any t hs
 any_same s t [] same = refl
 any_same s t (h ∷ hs) same = ap (λ b. b || list_any s hs) (same h) ∙ ap (λ b. t h || b) (any_same s t hs same)
@@ -117,7 +116,7 @@ free table hs (Alone g) counted listed =
     both false s x y e f = ap (λ b. b && y) e ∙ f
 free table hs (Shared g) counted listed = is_none _ _ (counted.alone g (ltb-true g 64 listed)) ∙ ap not (sym (barred_shared g hs))
 
--- as a table's owner asks it
+-- the same for values that are equal to these
 pub free_as : (table was : Counts) (hs : List Hold) (w v : Hold) (b : Bool) → w ≡ v → was ≡ table → b ≡ free_by was v → IsCounted hs table → is_listed w ≡ true → b ≡ not (list_any (bars w) hs)
 free_as table was hs w v b is same e counted listed = e ∙ ap (λ t. free_by t v) same ∙ ap (free_by table) (sym is) ∙ free table hs w counted listed
 
@@ -173,7 +172,6 @@ shared_more table hs w g is listed long counted =
 
 -- one whose lock is free
 
--- whether the lock of one that waits is free
 abbrev pub is_free_of : List Hold → Hold → Bool
 is_free_of hs w = not (list_any (bars w) hs)
 
@@ -185,7 +183,7 @@ found now waiting hs ws g held waits lt frees =
     (λ both. let parts = and_parts (nat_lt 0 (slice_index waiting.alone g)) (slice_index now.shared g == 0) both in one (is_alone g) (waits.alone g lt) parts.0 (alone two.0 parts.1))
     (or_cases (nat_lt 0 (slice_index waiting.shared g)) _ two.1)
   where
-    -- one of those that pass this test, so many
+    -- of the n that pass this test, one
     one : (t : Hold → Bool) {n : ℕ} → n ≡ number_of t ws → nat_lt 0 n ≡ true → ((w : Hold) → t w ≡ true → is_free_of hs w ≡ true) → list_any (is_free_of hs) ws ≡ true
     one t e some frees_each = any_more t (is_free_of hs) ws frees_each (any_number t ws ∙ ap (nat_lt 0) (sym e) ∙ some)
 
@@ -206,7 +204,7 @@ pub none_found : (now waiting : Counts) (hs ws : List Hold) → IsCounted hs now
     → AllByRecursion (λ w. takes w ≡ true) ws → AllByRecursion (λ w. is_listed w ≡ true) ws → list_any (is_free_of hs) ws ≡ false
 none_found now waiting hs ws held waits none taking listed = none_pass (is_free_of hs) ws (each ws (λ t. omega arith) taking listed)
   where
-    -- one that waits alone is counted, and one that shares
+    -- those that wait alone are counted, and so are those that share
     alone : (g : ℕ) → g < 64 → 0 < number_of (is_alone g) ws → is_free_of hs (Alone g) ≡ false
     alone g lt some =
         sym (free now hs (Alone g) held (lt-ltb g 64 lt))

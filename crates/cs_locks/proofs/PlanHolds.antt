@@ -9,7 +9,6 @@ use Rattle.cs_history.specs.declared.run.Run.{Run}
 use Rattle.cs_locks.specs.Locks.{bars, hold_in, hold_of, takes}
 use Rattle.cs_locks.specs.declared.hold.Hold.{Hold}
 
--- a run is in the way of another where it keeps the lock from it
 pub in_the_way_bars : (p : Plan) (i j : ℕ) → in_the_way p i j ≡ bars (hold_of p i) (hold_of p j)
 in_the_way_bars p i j = by (p.group i)
   where
@@ -21,7 +20,7 @@ in_the_way_bars p i j = by (p.group i)
     alone true = refl
     alone false = refl
 
-    -- where i takes the lock of group g, and both take and share one or not
+    -- i takes the lock of group g, and both take and share one or not
     of_group : (g : ℕ) (ti si tj sj : Bool) (group : Option ℕ) → ((ti && tj) && (is_group g group && not (si && sj))) ≡ bars (hold_in ti si (Some g)) (hold_in tj sj group)
     of_group g false si tj sj group = refl
     of_group g true true false sj None = refl
@@ -43,7 +42,6 @@ any_mapped : {X : Type 0} (s : X → Bool) (t : Hold → Bool) (f : X → Hold) 
 any_mapped s t f [] same = refl
 any_mapped s t f (x ∷ xs) same = ap (λ b. b || list_any s xs) (same x) ∙ ap (λ b. t (f x) || b) (any_mapped s t f xs same)
 
--- so a lock is free where none of those that run keeps it
 pub is_free_holds : (p : Plan) (rs : List Going) (j : ℕ) → is_free p rs j ≡ not (list_any (bars (hold_of p j)) (map (λ r. hold_of p r.run.job) rs))
 is_free_holds p rs j = ap not (any_mapped (λ (r : Going). in_the_way p j r.run.job) (bars (hold_of p j)) (λ r. hold_of p r.run.job) rs (λ r. in_the_way_bars p j r.run.job))
 
@@ -52,7 +50,6 @@ pub one_is_free_holds : (p : Plan) (rs : List Going) (ws : List Run)
 one_is_free_holds p rs ws =
     any_mapped (λ (w : Run). is_free p rs w.job) (λ h. not (list_any (bars h) (map (λ r. hold_of p r.run.job) rs))) (λ w. hold_of p w.job) ws (λ w. is_free_holds p rs w.job)
 
--- a job that takes the lock of its group has to do with one
 pub takes_hold : (p : Plan) (j g : ℕ) → takes_lock p j ≡ true → p.group j ≡ Some g → takes (hold_of p j) ≡ true
 takes_hold p j g taking group = ap (λ o. takes (hold_in (takes_lock p j) (shares p j) o)) group ∙ ap (λ b. takes (hold_in b (shares p j) (Some g))) taking ∙ by (shares p j)
   where

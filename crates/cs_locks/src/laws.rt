@@ -7,7 +7,7 @@ ghost use Rattle.cs_history.specs.declared.run.Run.{Run};
 ghost use Rattle.cs_locks.specs.Locks.{Counts, HasRoom, IsCounted, bars, hold_of, takes};
 ghost use Rattle.cs_locks.specs.declared.hold.Hold.{Hold};
 
-/// Lemma. What runs hold decides which of them keep a lock from which, and so whose lock is free.
+/// Lemma. The holds of runs decide which of them keep a lock from which, and so whose lock is free.
 pub fn holds_say_what_is_free()
 
     // a run is in the way of another if it keeps the lock from it

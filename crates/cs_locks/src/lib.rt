@@ -1,4 +1,4 @@
-//! How many runs hold each group's lock or wait for it: the cost doesn't grow with the runs.
+//! Counts the runs that hold or await each group's lock, at a cost that doesn't grow with the runs.
 #![tactic(auto)]
 
 mod hold;

@@ -9,7 +9,7 @@ use std::marker::Model;
 /// The most groups of a plan.
 const GROUPS: usize = 64;
 
-/// For each group how many runs hold its lock, or wait for it, exclusively, and how many share it.
+/// For each group, how many runs hold its lock, or wait for it, exclusively, and how many share it.
 /// No call allocates, and each takes the same time, however many runs are counted.
 #[derive(Drop)]
 pub struct LockTable {
@@ -75,7 +75,7 @@ impl LockTable {
         }
     }
 
-    /// Checks whether no counted run keeps the lock from a run.
+    /// Whether no counted run keeps the lock from a run.
     pub fn is_free(&self, hold: Hold) -> bool
         requires listed { is_listed hold ≡ true }
         ensures { (hs : List Hold) → IsCounted hs self.now
@@ -91,7 +91,7 @@ impl LockTable {
         }
     }
 
-    /// Checks whether a waiting run would find its lock free. Each of them takes a lock.
+    /// Whether a waiting run would find its lock free.
     pub fn frees(&self, waiting: &LockTable) -> bool
         ensures { (hs ws : List Hold) → IsCounted hs self.now → IsCounted ws waiting.now
             → AllByRecursion (λ w. takes w ≡ true) ws
@@ -106,7 +106,6 @@ impl LockTable {
         false
     }
 
-    /// Whether one of the runs that wait for this group's lock would find it free.
     fn frees_in(&self, group: usize, waiting: &LockTable) -> bool
         requires { group < 64 }
         ensures { result ≡ frees_in self.now waiting.now group }

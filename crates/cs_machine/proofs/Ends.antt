@@ -49,7 +49,7 @@ no_blank (x ∷ xs) none =
 pub none_behind : (xs : List ℕ) (i : ℕ) → NoneAfter (Passes (is_byte 32) xs) 0 (length xs) i → has_blank (drop (i + 1) xs) ≡ false
 none_behind xs i last = no_blank (drop (i + 1) xs) (λ k low is. last.after (i + 1 + k) (omega arith) (omega (arith, subst (λ n. k < n) (length-drop (i + 1) xs) low)) (sym (ap (λ b. b == 32) (get_or-drop (i + 1) xs k 0)) ∙ is))
 
--- a run that ended by a signal: what is told behind its name
+-- what follows the name of a run that a signal ended
 pub behind_name : (words run number : List ℕ) → EndsBy words run (codes " signal") number → drop (6 + length run + 1) words ≡ codes "signal " ++ number
 behind_name words run number ends =
     let front : List ℕ = codes "ended " ++ run ++ codes " " in
@@ -58,7 +58,6 @@ behind_name words run number ends =
     let long : length front ≡ 6 + length run + 1 = length-append (codes "ended " ++ run) (codes " ") ∙ ap (λ n. n + 1) (length-append (codes "ended ") run) in
     sym (ap (λ n. drop n words) long) ∙ ap (λ t. drop (length front) t) cut ∙ drop-append_seam front told
 
--- the last byte of a text, 0 where there is none
 abbrev last_byte : List ℕ → ℕ
 last_byte text = first (reverse text)
 
@@ -67,7 +66,7 @@ status_apart run other same =
     let last : 115 ≡ 108 = sym (ap first (reverse-append (codes "ended " ++ run) (codes " status"))) ∙ ap last_byte same ∙ ap first (reverse-append (codes "ended " ++ other) (codes " signal")) in
     absurd (omega (arith, last))
 
--- a line with status 0 tells no other status
+-- a line with status 0 has no other status
 other_status : (words run other failed : List ℕ) → EndsBy words run (codes " status") (codes "0") → TellsEnd words other failed → failed ≡ codes "0"
 other_status words run other failed ends (inl by) =
     (end_parts words other (codes " status") failed (codes "ended " ++ run ++ codes " status") (codes "0") by ends.0 ends.1).1
@@ -83,12 +82,10 @@ no_failure words run status started (inr by) zero other failed (inr told) =
     let head : 115 ≡ 48 = ap first (sym by.2 ∙ zero) in
     absurd (omega (arith, head))
 
--- a line that tells the end of a run neither with a status nor by a signal
 pub no_end : (words : List ℕ) → ((run word : List ℕ) → ¬ (EndsBy words run (codes " status") word)) → ((run status : List ℕ) → ¬ (TellsSignal words run status)) → (run status : List ℕ) → ¬ (TellsEnd words run status)
 no_end words by_status by_signal run status (inl by) = by_status run status by
 no_end words by_status by_signal run status (inr by) = by_signal run status by
 
--- a line that tells neither that a run couldn't be started nor the end of one
 pub no_fail : (words : List ℕ) → ((name : List ℕ) → words ≢ codes "not started " ++ name) → ((run status : List ℕ) → ¬ (TellsEnd words run status)) → (run status : List ℕ) → ¬ (TellsFailure words run status)
 no_fail words started ended run status (inl told) = started run told.0
 no_fail words started ended run status (inr told) = ended run status told.0

@@ -8,7 +8,6 @@ use Rattle.cs_machine.specs.Output.{is_moment, zeroed}
 abbrev pub shape : List ℕ
 shape = codes "0000-00-00T00:00"
 
--- a byte of a text has the shape of that place
 abbrev pub FitsAt : List ℕ → ℕ → Type 0
 FitsAt text k = zeroed (get_or text k 0) ≡ get_or shape k 0
 

@@ -6,7 +6,7 @@ use Rattle.std.specs.List.{list_any}
 abbrev pub is_kept_out : ℕ → Bool
 is_kept_out b = b == 47 || b == 32 || b == 9
 
--- what can be a file's name, and has no blank, as each identifier
+-- a file's name without blanks, as an identifier is
 pub record IsFileName (name : List ℕ) : Type 0 where
   pub some : name ≢ []
   pub no_dot : name ≢ codes "."
@@ -21,11 +21,9 @@ file_of folder identifier = folder ++ codes "/" ++ identifier
 abbrev pub new_file_of : List ℕ → List ℕ → List ℕ
 new_file_of folder identifier = file_of folder identifier ++ codes " new"
 
--- the file of a daemon's state
 abbrev pub state_file_of : List ℕ → List ℕ
 state_file_of folder = file_of folder (codes "cronsafe state")
 
--- the file of a daemon's answer to a request
 abbrev pub answer_file_of : List ℕ → List ℕ
 answer_file_of folder = file_of folder (codes "cronsafe answer")
 

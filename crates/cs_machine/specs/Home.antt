@@ -4,11 +4,9 @@ use Rattle.std.specs.Prelude.{ℕ, List, ◌==◌, ◌&&◌, Bool, false, length
 use Rattle.std.specs.List.{find, slice_split}
 use Rattle.cs_machine.specs.declared.home.Home.{Home}
 
--- what stands between the newlines of a text
 abbrev pub lines_of : List ℕ → List (List ℕ)
 lines_of text = slice_split (λ b. b == 10) text
 
--- what stands between the colons of a line
 abbrev pub fields_of : List ℕ → List (List ℕ)
 fields_of line = slice_split (λ b. b == 58) line
 
@@ -20,7 +18,7 @@ abbrev pub is_same : List ℕ → Option (List ℕ) → Bool
 is_same wanted None = false
 is_same wanted (Some field) = bytes_eq field wanted
 
--- whether a line is an entry of the user of a number
+-- an entry has seven fields; the third is the user's number
 abbrev pub is_entry_of : List ℕ → List ℕ → Bool
 is_entry_of number line = length (fields_of line) == 7 && is_same number (field line 2)
 

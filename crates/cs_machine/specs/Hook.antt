@@ -10,7 +10,6 @@ abbrev pub hook_words : List ℕ → List (List ℕ)
 hook_words command =
     codes "-c" ∷ codes "(eval \"$1\") </dev/null &" ∷ codes "sh" ∷ command ∷ []
 
--- a name and its value
 abbrev pub HookVariable : Type 0
 HookVariable = Bor (List ℕ) × Bor (List ℕ)
 
@@ -18,10 +17,9 @@ HookVariable = Bor (List ℕ) × Bor (List ℕ)
 unfoldable pub readable : List ℕ → List ℕ
 readable text = utf8_lossy text
 
--- one variable more
 abbrev pub hook_value_with : List ℕ → Option (List ℕ) → HookVariable → Option (List ℕ)
 hook_value_with name before v = value_with name before (v.0.now, readable v.1.now)
 
--- the value that variables, one after the other, give to a name
+-- the value that variables give to a name: the last one
 abbrev pub hook_value : List HookVariable → List ℕ → Option (List ℕ)
 hook_value variables name = fold (hook_value_with name) None variables

@@ -6,37 +6,36 @@ use Rattle.cs_machine.specs.declared.hook_call.HookCall.{HookCall as TheCall}
 use Rattle.cs_machine.specs.declared.hook_call.HookCall.TheVariants.{Overrun, Failure}
 use Rattle.cs_machine.specs.declared.setup.JobNote.{JobNote}
 
--- a line tells the end of a run, behind its name this, and then one word
+-- `ended RUN WHAT WORD`, with one word at the end
 abbrev pub EndsBy : List ℕ → List ℕ → List ℕ → List ℕ → Type 0
 EndsBy words run what word =
     (words ≡ codes "ended " ++ run ++ what ++ codes " " ++ word)
     × (list_any (λ b. b == 32) word ≡ false)
 
--- it tells the end of a run by a signal, with its number
+-- `ended RUN signal NUMBER`
 abbrev pub TellsSignal : List ℕ → List ℕ → List ℕ → Type 0
 TellsSignal words run status =
     (number : List ℕ) × EndsBy words run (codes " signal") number
     × (status ≡ codes "signal " ++ number)
 
--- it tells the end of a run, with a status, which is one word, or by a signal
+-- a run ended with a status, which is one word, or by a signal
 abbrev pub TellsEnd : List ℕ → List ℕ → List ℕ → Type 0
 TellsEnd words run status =
     EndsBy words run (codes " status") status ⊎ TellsSignal words run status
 
--- it tells that a run couldn't be started, or ended with another status than 0
+-- a run failed: it couldn't be started, or ended with another status than 0, or by a signal
 abbrev pub TellsFailure : List ℕ → List ℕ → List ℕ → Type 0
 TellsFailure words run status =
     ((words ≡ codes "not started " ++ run) × (status ≡ codes "not started"))
     ⊎ (TellsEnd words run status × (status ≢ codes "0"))
 
--- it tells what is called for: that a run is late, or that it failed
+-- hooks are called for a run that is late, and for one that failed
 abbrev pub Tells : List ℕ → List JobNote → TheCall → Type 0
 Tells words jobs (Overrun run peers) =
     (words ≡ codes "overrun " ++ run) × (peers ≡ peers_of run jobs)
 Tells words jobs (Failure run status) = TellsFailure words run status
 
--- the calls that are kept behind a line: what it tells comes behind the others, unless there are
--- 256
+-- the calls that are kept after a line: its own comes last, unless there are 256 before
 abbrev pub Keeps : List ℕ → List JobNote → List TheCall → List TheCall → Type 0
 Keeps words jobs before after =
     ((call : TheCall) × Tells words jobs call

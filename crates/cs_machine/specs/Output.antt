@@ -1,4 +1,4 @@
--- The files that the output of runs goes to, and what is told where one can't be opened.
+-- The files for the output of runs, and what is written where one can't be opened.
 use Rattle.std.specs.Prelude.{◌≡◌, ℕ, ◌-◌, ◌&&◌, ◌==◌, if◌then◌else◌, Bool, true, not, List, ◌++◌, length, map, take, drop, bytes_eq, slice_get, string_bytes, codes, Option, Some, None, String}
 use Rattle.std.specs.Char.{is_ascii_digit}
 use Rattle.std.specs.List.{list_all, slice_split}
@@ -24,27 +24,24 @@ named None time kind job = None
 abbrev pub output_name : List ℕ → Option (List ℕ)
 output_name run = named (word run 3) (word run 4) (word run 0) (word run 1)
 
--- a byte, with `0` in place of each digit
+-- a digit becomes `0`
 abbrev pub zeroed : ℕ → ℕ
 zeroed b = if is_ascii_digit b then 48 else b
 
--- whether a text has the shape of a moment
 abbrev pub is_moment : List ℕ → Bool
 is_moment text = bytes_eq (map zeroed text) (codes "0000-00-00T00:00")
 
--- whether a name is that of a file of the same job: a moment, and behind it the same
+-- a file of the same job: a moment, and after it the same
 abbrev pub is_of_job : List ℕ → List ℕ → Bool
 is_of_job file name = is_moment (take 16 name) && bytes_eq (drop 16 name) (drop 16 file)
 
--- whether it is that of another file of the job
 abbrev pub is_other_of : List ℕ → List ℕ → Bool
 is_other_of file name = not (bytes_eq name file) && is_of_job file name
 
--- names of other files of the job
 abbrev pub AreOthers : {Z : Type 0} → List ℕ → List (String Z) → Type 0
 AreOthers {Z} file names = list_all (λ name. is_other_of file (string_bytes name)) names ≡ true
 
--- these names in order, without the last ones, of which so many are left out
+-- names in order, without the last ones, this many
 abbrev pub AreFirst : {Z : Type 0} → ℕ → List (String Z) → List (String Z) → Type 0
 AreFirst {Z} left names first =
     (sorted : List (String Z)) × IsPermutation names sorted × IsSorted string_cmp sorted
@@ -55,7 +52,7 @@ abbrev pub AreOld : {Z : Type 0} → List ℕ → ℕ → List (String Z) → Ty
 AreOld {Z} file keep old =
     (others : List (String Z)) × AreOthers file others × AreFirst (keep - 1) others old
 
--- what is told where the file of a run can't be opened: the run, the folder and the machine's error
+-- a run's file can't be opened: the run, the folder and the machine's error
 abbrev pub output_text : List ℕ → List ℕ → List ℕ → List ℕ
 output_text run folder why =
     codes "can't keep the output of " ++ run ++ place_text (Some folder) ++ codes ": " ++ why

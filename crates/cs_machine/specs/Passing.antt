@@ -1,5 +1,5 @@
--- What a clock tells where the machine's shows a minute, when one that was given a number of minutes
--- stops, and a minute at another offset.
+-- What a clock shows when the machine's shows a minute, when a clock with a limit stops, and a
+-- minute at another offset.
 use Rattle.std.specs.Prelude.{◌≡◌, ◌↔◌, ◌≤◌, ℕ, ◌-◌, ℤ, pos, negsuc, ◌+ℤ◌, ◌*ℤ◌, Bool, false, nat_le, nat_lt, if◌then◌else◌, Option, Some, None}
 use Rattle.std.specs.Int.{int_div_euclid}
 use Rattle.cs_civil.specs.Calendar.{first_minute, last_minute}
@@ -7,7 +7,7 @@ use Rattle.cs_device.specs.declared.clock.Tick.{Tick}
 use Rattle.cs_device.specs.declared.clock.Tick.TheVariants.{At, Stop}
 use Rattle.cs_machine.specs.declared.attendant.ClockBack.{ClockBack}
 
--- the latest minute, with one more
+-- the latest minute so far, with this one
 abbrev pub latest : Option ℕ → ℕ → ℕ
 latest None minute = minute
 latest (Some before) minute = if nat_le before minute then minute else before
@@ -17,20 +17,20 @@ abbrev pub is_behind : Option ℕ → ℕ → Bool
 is_behind None shown = false
 is_behind (Some before) shown = nat_lt shown before
 
--- what is told of it: both minutes, and whether the latest one is at most an hour ahead
+-- what is reported of it: both minutes, and whether the latest one is at most an hour ahead
 abbrev pub IsBackAt : Option ℕ → ℕ → ClockBack → Type 0
 IsBackAt before shown back =
     (before ≡ Some back.latest) × (back.shown ≡ shown)
     × (back.is_waited_for ≡ nat_le (back.latest - shown) 60)
 
--- The minute that is told: where the machine's clock was put back by at most an hour, the latest one.
+-- the minute shown: the latest one, if the machine's clock was put back by at most an hour
 abbrev pub held : Option ℕ → ℕ → ℕ
 held None minute = minute
 held (Some before) minute =
     if nat_le before minute then minute
     else if nat_le (before - minute) 60 then before else minute
 
--- Whether so many minutes have passed since the first; none have where the clock went back.
+-- whether this many minutes have passed since the first; none have where the clock went back
 abbrev pub is_over : Option ℕ → Option ℕ → ℕ → Bool
 is_over (Some limit) (Some first) minute = nat_le limit (minute - first)
 is_over (Some limit) None minute = false
@@ -55,7 +55,7 @@ abbrev pub IsSameInstant : ℤ → ℕ → ℤ → ℕ → Type 0
 IsSameInstant offset minute other_offset other =
     pos minute +ℤ other_offset ≡ pos other +ℤ offset
 
--- A minute of one offset, as a clock of the other shows that instant, if that is a civil minute.
+-- a minute of one offset, as a clock of the other shows that instant, if that is a civil minute
 abbrev pub IsMoved : ℤ → Option ℕ → ℤ → Option ℕ → Type 0
 IsMoved offset None other_offset moved = moved ≡ None
 IsMoved offset (Some minute) other_offset moved =

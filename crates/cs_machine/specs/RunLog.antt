@@ -19,29 +19,29 @@ abbrev pub time_text : Option ℕ → List ℕ
 time_text None = []
 time_text (Some s) = if nat_le (s / 86_400) last_day then moment_text s ++ codes " " else []
 
--- for how many seconds a run took; nothing where it isn't known
+-- how many seconds a run took; nothing where it isn't known
 abbrev pub span_text : Option ℕ → List ℕ
 span_text None = []
 span_text (Some s) = codes " after " ++ decimal s ++ codes " s"
 
--- a line, in which a terminal shows each byte of the words
+-- a line, with control characters of its words as `\xNN`
 abbrev pub line_text : Option ℕ → List ℕ → Option ℕ → List ℕ
 line_text at words span =
     time_text at ++ flat_map shown words ++ span_text span ++ codes "\n"
 
--- with which jobs' runs a late run may meet, a line of its own; nothing where there are none
+-- the jobs whose runs a late run may meet, a line of its own; nothing where there are none
 abbrev pub peers_text : Option ℕ → List ℕ → List ℕ → List ℕ
 peers_text at run [] = []
 peers_text at run (p ∷ ps) = line_text at (run ++ codes " may meet " ++ p ∷ ps) None
 
--- what follows a line: behind that of a late run what it may meet, behind any other nothing
+-- after the line of a late run what it may meet, after any other nothing
 abbrev pub Follows : Option ℕ → List ℕ → List JobNote → List ℕ → Type 0
 Follows at words jobs text =
     ((run : List ℕ) × (words ≡ codes "overrun " ++ run)
     × (text ≡ peers_text at run (peers_of run jobs)))
     ⊎ (((run : List ℕ) → words ≢ codes "overrun " ++ run) × (text ≡ []))
 
--- the calls behind a line, with hooks and without; where memory ran out, the line's may be missing
+-- the calls after a line, with hooks and without; where memory ran out, the line's may be missing
 abbrev pub IsCalled : Setup → List ℕ → Bool → List TheCall → List TheCall → Type 0
 IsCalled setup words kept before after =
     ((setup.has_hooks ≡ true) × Keeps words setup.jobs.now before after)

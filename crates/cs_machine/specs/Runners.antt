@@ -4,20 +4,19 @@ use Rattle.cs_machine.specs.declared.output.OutputFolder.{OutputFolder}
 use Rattle.cs_machine.specs.declared.runners.RunnerSetup.{RunnerSetup}
 use Rattle.cs_machine.specs.declared.runners.RunnerWords.{RunnerWords}
 
--- the folder at the path that is given, if one is, and how many files of each job are kept in it
+-- the folder at the given path, if there is one, and how many files of each job it keeps
 abbrev pub IsOutputOf : RunnerWords → Option OutputFolder → Type 0
 IsOutputOf words output =
     (option_map (λ folder. string_bytes folder.path) output
     ≡ option_map (λ path. path.now) words.output)
     × IfSome output (λ folder. folder.keep ≡ words.keep)
 
--- what one runner is made with by these words
 abbrev pub IsMadeWith : RunnerWords → RunnerSetup → Type 0
 IsMadeWith words setup =
     (setup.has_home ≡ words.has_home) × (setup.tells_signals ≡ words.tells_signals)
     × IsOutputOf words setup.output
 
--- a runner that was made by a call with such a setup, where this is what a call may return
+-- a runner made by a call with such a setup, where `returns` is what a call may return
 abbrev pub IsMadeBy : {W : Type 0} → (RunnerSetup → W → Type 0) → RunnerWords → W → Type 0
 IsMadeBy {W} returns words runner =
     (setup : RunnerSetup) × IsMadeWith words setup × returns setup runner

@@ -1,9 +1,9 @@
--- What a daemon was begun with tells of a run.
+-- What a daemon reports of a run.
 use Rattle.std.specs.Prelude.{ℕ, nat_eq, List, [], Option, option_map, unwrap_or}
 use Rattle.std.specs.List.{find, starts_with}
 use Rattle.cs_machine.specs.declared.setup.JobNote.{JobNote}
 
--- which note is a run's: the first whose front begins its name
+-- the note of a run: the first whose front begins its name
 abbrev pub note_of : List ℕ → List JobNote → Option JobNote
 note_of run jobs = find (λ note. starts_with nat_eq run note.front) jobs
 

@@ -4,15 +4,12 @@ use Rattle.std.specs.List.{fold, list_all}
 use Rattle.std.specs.Str.{bytes_eq, is_utf8}
 use Rattle.cs_machine.specs.declared.home.Home.{Home}
 
--- a name and its value
 abbrev pub Variable : Type 0
 Variable = List ℕ × List ℕ
 
--- whether a name and its value are UTF-8
 abbrev pub is_setting : Variable → Bool
 is_setting v = is_utf8 v.0 && is_utf8 v.1
 
--- whether a user's name and folder are UTF-8
 abbrev pub is_text_home : Option Home → Bool
 is_text_home None = true
 is_text_home (Some home) = is_utf8 home.user && is_utf8 home.folder
@@ -28,7 +25,7 @@ shell_name = codes "SHELL"
 abbrev pub usual_shell : List ℕ
 usual_shell = codes "/bin/sh"
 
--- SHELL is the usual shell above all settings
+-- SHELL is the usual shell, before all settings
 abbrev pub with_shell : List Variable → List Variable
 with_shell env = (shell_name, usual_shell) ∷ env
 
@@ -41,7 +38,7 @@ user_settings None = []
 user_settings (Some home) =
     (home_name, home.folder) ∷ (codes "LOGNAME", home.user) ∷ (codes "USER", home.user) ∷ []
 
--- what is set above all settings: the usual shell and the user's variables
+-- what is set before all settings: the usual shell and the user's variables
 abbrev pub usual_settings : Option Home → List Variable
 usual_settings home = (shell_name, usual_shell) ∷ user_settings home
 
@@ -49,7 +46,7 @@ usual_settings home = (shell_name, usual_shell) ∷ user_settings home
 abbrev pub value_with : List ℕ → Option (List ℕ) → Variable → Option (List ℕ)
 value_with name before setting = if bytes_eq setting.0 name then Some setting.1 else before
 
--- the value that settings, one after the other, give to a name
+-- the value that settings give to a name: the last one
 abbrev pub value_of : List Variable → List ℕ → Option (List ℕ)
 value_of env name = fold (value_with name) None env
 
@@ -57,7 +54,7 @@ value_of env name = fold (value_with name) None env
 abbrev pub value_after : List Variable → List Variable → List ℕ → Option (List ℕ)
 value_after before env name = fold (value_with name) (value_of before name) env
 
--- the folder of a command: where the user is known, what HOME is
+-- the folder of a command: if the user is known, what HOME is
 abbrev pub folder_of : List Variable → Option Home → Option (List ℕ)
 folder_of env None = None
 folder_of env (Some home) = value_after (usual_settings (Some home)) env home_name

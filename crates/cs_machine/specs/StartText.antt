@@ -1,4 +1,4 @@
--- What is told of a command that can't be started.
+-- What is written of a command that can't be started.
 use Rattle.std.specs.Prelude.{ℕ, List, ◌++◌, Option, Some, None, codes}
 use Rattle.std.specs.List.{flat_map}
 use Rattle.cs_place.specs.Shown.{shown}

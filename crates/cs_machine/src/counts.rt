@@ -1,21 +1,16 @@
-//! How often each kind of event was told in a log.
-
-/// How many lines of a log tell each of these; the last count of 64 bits stays.
+/// How many lines of a log report each of these, at most 2^64 - 1.
 #[derive(Clone, Copy)]
 pub(crate) struct Counts {
     /// Runs that were skipped, since their group's lock was held.
     pub(crate) skipped: u64,
     /// Runs that have passed their declared time.
     pub(crate) overruns: u64,
-    /// Runs that couldn't be started.
     pub(crate) not_started: u64,
     /// Gaps in the clock's minutes.
     pub(crate) outages: u64,
-    /// Stamps that couldn't be written.
     pub(crate) stamps_not_written: u64,
 }
 
-/// A count, and one more where the words begin so.
 fn counted(count: u64, words: &[u8], front: &[u8]) -> u64 {
     if words.starts_with(front) {
         count.saturating_add(1)
@@ -25,7 +20,6 @@ fn counted(count: u64, words: &[u8], front: &[u8]) -> u64 {
 }
 
 impl Counts {
-    /// No line.
     pub(crate) const NONE: Counts = Counts {
         skipped: 0,
         overruns: 0,
@@ -34,7 +28,6 @@ impl Counts {
         stamps_not_written: 0,
     };
 
-    /// The counts with one line more.
     pub(crate) fn with(self, words: &[u8]) -> Counts {
         Counts {
             skipped: counted(self.skipped, words, b"skipped "),

@@ -1,4 +1,3 @@
-//! The lock of a folder.
 use std::fs;
 use std::fs::{File, TryLockError};
 use std::rt::Files;
@@ -6,13 +5,13 @@ use std::rt::Files;
 /// Why a folder can't be locked.
 #[derive(Clone, Copy)]
 pub enum LockFault {
-    /// Another has locked it.
+    /// Another process has locked it.
     InUse,
     /// It can't be opened or locked.
     Failed,
 }
 
-/// An exclusive lock on a folder itself (flock(2)): as long as it lives, nobody else gets one. The
+/// An exclusive lock on a folder itself (flock(2)): while it lives, nobody else gets one. The
 /// machine frees it when the process ends, however that ends.
 #[derive(Drop)]
 pub struct FolderLock {
@@ -20,8 +19,7 @@ pub struct FolderLock {
 }
 
 impl FolderLock {
-    /// Locks a folder. [`LockFault::InUse`] if another has locked it, and [`LockFault::Failed`] if
-    /// it can't be opened or locked.
+    /// Locks a folder, without waiting.
     pub fn take<R: Files<File = File>>(rt: &R, folder: &str) -> Result<FolderLock, LockFault> {
         let Ok(folder) = fs::open(rt, folder) else {
             return Err(LockFault::Failed);

@@ -1,4 +1,3 @@
-//! The user whose commands are run, and the user's folder.
 ghost use Rattle.std.specs.Prelude.{◌≡◌, IfOk, option_map};
 ghost use Rattle.std.specs.List.{find};
 ghost use Rattle.cs_machine.specs.Home.{home_of, home_on, is_entry_of};
@@ -19,29 +18,25 @@ pub struct Home {
     pub(crate) folder: Bytes,
 }
 
-/// The most bytes of the users' entries that are read: a mebibyte.
+/// The most bytes of `/etc/passwd` that are read: a mebibyte.
 const MOST: u64 = 1_048_576;
 
-/// What stands between the fields of an entry.
 const COLON: u8 = b':';
 
-/// The fields of an entry.
 const FIELDS: usize = 7;
 
-/// The field of a user's name, from 0.
+/// The place of a field in an entry, from 0 (passwd(5)), as the next two.
 const USER: usize = 0;
 
-/// The field of a user's number.
 const NUMBER: usize = 2;
 
-/// The field of a user's folder.
 const FOLDER: usize = 5;
 
 impl Home {
-    /// Returns the name and the folder of this process's effective user, by the first entry in
-    /// `/etc/passwd` with the user's number. A line that hasn't seven fields is no entry.
+    /// Returns this process's effective user, by the first entry in `/etc/passwd` with the user's
+    /// number. Lines that don't have seven fields are ignored.
     ///
-    /// None if the user has no entry in the first mebibyte, if the file or the process can't be
+    /// None if the first mebibyte has no entry of the user, if the file or the process can't be
     /// looked at, or if memory runs out.
     pub fn of_process<R: Files>(rt: &R, alloc: Global) -> Option<Home> {
         let user = fs::metadata(rt, "/proc/self").ok()?.uid();
@@ -50,7 +45,6 @@ impl Home {
     }
 }
 
-/// The name and the folder in the first entry of a user. The only error is out of memory.
 fn home_of(alloc: Global, user: u32, text: &[u8]) -> Result<Option<Home>, AllocError>
     ensures { IfOk result (λ home. home ≡ home_of user text.now) }
 {
@@ -62,7 +56,6 @@ fn home_of(alloc: Global, user: u32, text: &[u8]) -> Result<Option<Home>, AllocE
     }
 }
 
-/// The name and the folder in an entry.
 fn home_on(alloc: Global, line: &[u8]) -> Result<Option<Home>, AllocError>
     ensures { IfOk result (λ home. home ≡ home_on line.now) }
 {
@@ -75,7 +68,6 @@ fn home_on(alloc: Global, line: &[u8]) -> Result<Option<Home>, AllocError>
     }))
 }
 
-/// The first entry of the user of a number.
 fn entry_of<'t>(number: &[u8], text: &'t [u8]) -> Option<&'t [u8]>
     ensures { option_map (λ line. line.now) result
         ≡ find (is_entry_of number.now) (lines_of text.now) }

@@ -1,4 +1,3 @@
-//! Commands that are called when something has happened.
 ghost use Rattle.std.specs.Prelude.{◌≡◌, ℕ, List, None, Some, IfOk, OnOk, string_bytes};
 ghost use Rattle.std.specs.Prelude.{codes, option_map, if◌then◌else◌, false};
 ghost use Rattle.std.specs.Str.{bytes_eq};
@@ -11,16 +10,14 @@ use std::io;
 use std::io::{Stderr, Stdout};
 use std::process::{Command, Processes, Stdio};
 
-/// The shell's own command: it starts the command that is its first parameter in the background,
-/// without input.
+/// The shell's own command: it starts its first parameter in the background, without input.
 const CALL: &str = "(eval \"$1\") </dev/null &";
 
-/// Starts a command with `/bin/sh` in the background, with these variables in its environment, and
-/// with these streams as its standard output and standard error. It waits for the shell that starts
-/// the command, which ends at once, and not for the command.
+/// Starts a command with `/bin/sh` in the background, with these variables and streams. It doesn't
+/// wait for the command, nor report how it ends.
 ///
-/// In a value, bytes that are no UTF-8 are U+FFFD. An error if the shell can't be started, as where
-/// the command or a value has a byte 0, and if memory runs out. How the command ends is not told.
+/// In a value, bytes that aren't UTF-8 become U+FFFD. An error if the shell can't be started, as
+/// where the command or a value has a byte 0, or if memory runs out.
 pub fn call_hook<P: Processes>(
     processes: &P,
     alloc: Global,
@@ -37,7 +34,6 @@ pub fn call_hook<P: Processes>(
     Ok(())
 }
 
-/// The shell that starts a command in the background. The only error is out of memory.
 fn hook_command(
     alloc: Global,
     command: &str,
@@ -59,7 +55,6 @@ fn hook_command(
     Ok(shell)
 }
 
-/// Sets variables, one after the other. The only error is out of memory.
 fn set_all(
     alloc: Global,
     shell: &mut Command,
@@ -78,7 +73,6 @@ fn set_all(
     Ok(())
 }
 
-/// A text, with U+FFFD for what isn't UTF-8. The only error is out of memory.
 #[tactic(auto, unfolding(crate::specs::Hook::readable))]
 fn readable(alloc: Global, text: &[u8]) -> Result<String, AllocError>
     ensures { IfOk result (λ shown. string_bytes shown ≡ readable text.now) }
@@ -86,7 +80,6 @@ fn readable(alloc: Global, text: &[u8]) -> Result<String, AllocError>
     String::from_utf8_lossy(alloc, text)
 }
 
-/// Sets a variable. The only error is out of memory.
 fn set_readable(
     alloc: Global,
     shell: &mut Command,

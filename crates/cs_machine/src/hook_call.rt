@@ -1,4 +1,3 @@
-//! What happened to a run, for which a command of the operator's is started.
 ghost use Rattle.std.specs.Prelude.{◌≡◌, ◌++◌, ◌==◌, ℕ, List, false, codes, IfOk, IfSome};
 ghost use Rattle.std.specs.Prelude.{IsNone};
 ghost use Rattle.std.specs.List.{list_any};
@@ -12,23 +11,22 @@ use cs_civil::Bytes;
 use memchr::memrchr;
 use std::alloc::{AllocError, Global};
 
-/// What happened to a run, for which a command of the operator's is started.
+/// An event of a run for which a command of the operator's is started.
 #[derive(Drop)]
 pub enum HookCall {
     /// It has passed its declared time.
     Overrun {
         /// Its name.
         run: Bytes,
-        /// The names of the jobs whose runs may meet it, such as `line 5, job backup`; empty where
-        /// there are none.
+        /// The jobs whose runs may meet it, such as `line 5, job backup`; empty if there are none.
         peers: Bytes,
     },
-    /// It couldn't be started, or ended with another status than 0, or by a signal.
+    /// It couldn't be started, ended with a status other than 0, or by a signal.
     Failure {
         /// Its name.
         run: Bytes,
-        /// The status as the log tells it, `none` where there is none, `signal` and its number where
-        /// a signal ended it, or `not started`.
+        /// The status as the log writes it, `none` if there is none; `signal` and its number; or
+        /// `not started`.
         status: Bytes,
     },
 }
@@ -36,7 +34,6 @@ pub enum HookCall {
 /// The most calls that are kept until they are taken.
 const MOST: usize = 256;
 
-/// What stands before the last blank of a text, and what follows it.
 fn around_last_blank(text: &[u8]) -> Option<(&[u8], &[u8])>
     ensures word { IfSome result (λ p. list_any (λ b. b == 32) p.1.now ≡ false) }
     ensures parts { IfSome result (λ p. text.now ≡ p.0.now ++ codes " " ++ p.1.now) }
@@ -46,7 +43,7 @@ fn around_last_blank(text: &[u8]) -> Option<(&[u8], &[u8])>
     Some((&text[..at], &text[at + 1..]))
 }
 
-/// The name of the run whose end a line tells, behind it this, and then one word: that word too.
+/// The run in `ended RUN WHAT WORD`, and the word.
 fn ended_by<'w>(words: &'w [u8], what: &[u8]) -> Option<(&'w [u8], &'w [u8])>
     ensures some { IfSome result (λ p. EndsBy words.now p.0.now what.now p.1.now) }
     ensures none { IsNone result → (run word : List ℕ) → ¬ (EndsBy words.now run what.now word) }
@@ -56,7 +53,7 @@ fn ended_by<'w>(words: &'w [u8], what: &[u8]) -> Option<(&'w [u8], &'w [u8])>
     Some((run, word))
 }
 
-/// The name of the run whose end by a signal a line tells, and `signal` with its number.
+/// The run in `ended RUN signal NUMBER`, and `signal NUMBER`.
 fn signalled_run(words: &[u8]) -> Option<(&[u8], &[u8])>
     ensures some { IfSome result (λ p. TellsSignal words.now p.0.now p.1.now) }
     ensures none { IsNone result → (run status : List ℕ) → ¬ (TellsSignal words.now run status) }
@@ -65,7 +62,6 @@ fn signalled_run(words: &[u8]) -> Option<(&[u8], &[u8])>
     Some((run, &words[b"ended ".len() + run.len() + 1..]))
 }
 
-/// The name of the run whose end a line tells, and its status or its signal.
 fn ended_run(words: &[u8]) -> Option<(&[u8], &[u8])>
     ensures some { IfSome result (λ p. TellsEnd words.now p.0.now p.1.now) }
     ensures none { IsNone result → (run status : List ℕ) → ¬ (TellsEnd words.now run status) }
@@ -76,7 +72,6 @@ fn ended_run(words: &[u8]) -> Option<(&[u8], &[u8])>
     }
 }
 
-/// The name of the run that a line tells to have failed, and what is told of that.
 fn failed_run(words: &[u8]) -> Option<(&[u8], &[u8])>
     ensures some { IfSome result (λ p. TellsFailure words.now p.0.now p.1.now) }
     ensures none { IsNone result → (run status : List ℕ) → ¬ (TellsFailure words.now run status) }
@@ -91,7 +86,6 @@ fn failed_run(words: &[u8]) -> Option<(&[u8], &[u8])>
     Some((run, status))
 }
 
-/// Two texts of their own. The only error is out of memory.
 fn copied(alloc: Global, one: &[u8], other: &[u8]) -> Result<(Bytes, Bytes), AllocError>
     ensures { IfOk result (λ both. (both.0 ≡ one.now) × (both.1 ≡ other.now)) }
 {
@@ -100,7 +94,6 @@ fn copied(alloc: Global, one: &[u8], other: &[u8]) -> Result<(Bytes, Bytes), All
     Ok((one, other))
 }
 
-/// What a line tells that is called for. The only error is out of memory.
 fn call_of(alloc: Global, words: &[u8], jobs: &[JobNote]) -> Result<Option<HookCall>, AllocError>
     ensures some { IfOk result (λ call. IfSome call (Tells words.now jobs.now)) }
     ensures none { IfOk result
@@ -117,8 +110,8 @@ fn call_of(alloc: Global, words: &[u8], jobs: &[JobNote]) -> Result<Option<HookC
     Ok(Some(HookCall::Failure { run, status }))
 }
 
-/// Keeps what a line tells that is called for, for a daemon with hooks, unless 256 calls are kept. The
-/// only error is out of memory, and then it isn't kept.
+/// Keeps the call for a line, if there are hooks and fewer than 256 calls. If memory runs out, it
+/// isn't kept.
 pub(crate) fn note_call(
     alloc: Global,
     calls: &mut Vec<HookCall>,

@@ -1,4 +1,4 @@
-//! The machine's own devices: its shell, its clock, a folder of stamps.
+//! The daemon's devices on the machine: shell, clock, stamps, lock, log, state, output and hooks.
 #![tactic(auto)]
 
 mod attendant;

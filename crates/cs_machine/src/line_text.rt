@@ -11,7 +11,6 @@ use cs_civil::{Day, day_text, push_number};
 use cs_place::push_shown;
 use std::alloc::{AllocError, Global};
 
-/// A number below 100, in two digits.
 fn two_digits(number: u64) -> [u8; 2]
     requires { number < 100 }
     ensures { result ≡ two_digits number }
@@ -19,7 +18,7 @@ fn two_digits(number: u64) -> [u8; 2]
     [b'0' + (number / 10) as u8, b'0' + (number % 10) as u8]
 }
 
-/// The text of a moment, in seconds since 1970-01-01 00:00 UTC; none after the year 9999.
+/// A moment in seconds since 1970-01-01 00:00 UTC, as text; none after the year 9999.
 pub(crate) fn moment_text(seconds: u64) -> Option<[u8; 20]>
     ensures dated { IsSome result ↔ (seconds / 86_400 ≤ last_day) }
     ensures text { IfSome result (λ text. text ≡ moment_text seconds) }
@@ -33,7 +32,6 @@ pub(crate) fn moment_text(seconds: u64) -> Option<[u8; 20]>
     ])
 }
 
-/// Adds the time and a blank; nothing where there is no time.
 fn push_time(text: &mut Vec<u8>, at: Option<u64>) -> Result<(), AllocError>
     ensures { OnOk result (text.new.items ≡ text.old.items ++ time_text at) }
 {
@@ -47,7 +45,6 @@ fn push_time(text: &mut Vec<u8>, at: Option<u64>) -> Result<(), AllocError>
     text.extend_from_slice(b" ")
 }
 
-/// Adds for how many seconds a run took; nothing where it isn't known.
 fn push_span(alloc: Global, text: &mut Vec<u8>, span: Option<u64>) -> Result<(), AllocError>
     ensures { OnOk result (text.new.items ≡ text.old.items ++ span_text span) }
 {
@@ -59,9 +56,7 @@ fn push_span(alloc: Global, text: &mut Vec<u8>, span: Option<u64>) -> Result<(),
     text.extend_from_slice(b" s")
 }
 
-/// Adds a line: its time, in seconds since 1970-01-01 00:00 UTC, its words, for how many seconds a
-/// run took, and a newline. A byte of the words below 32, 127 and `\` is added as `\xNN`. The only
-/// error is out of memory.
+/// The time is in seconds since 1970-01-01 00:00 UTC.
 pub(crate) fn push_line(
     alloc: Global,
     text: &mut Vec<u8>,
@@ -77,8 +72,6 @@ pub(crate) fn push_line(
     text.extend_from_slice(b"\n")
 }
 
-/// Adds the line of its own that tells which jobs' runs a late run may meet; nothing where there are
-/// none.
 fn push_peers(
     alloc: Global,
     text: &mut Vec<u8>,
@@ -97,8 +90,7 @@ fn push_peers(
     push_line(alloc, text, at, words.as_slice(), None)
 }
 
-/// Adds what follows a line: behind that of a late run the line that tells which jobs' runs it may
-/// meet. The only error is out of memory.
+/// Adds the line that follows that of a late run, if there is one.
 pub(crate) fn push_meeting(
     alloc: Global,
     text: &mut Vec<u8>,

@@ -1,4 +1,3 @@
-//! The machine's clock, in whole minutes.
 ghost use Rattle.std.specs.Prelude.{◌≡◌, ◌↔◌, ◌<◌, ◌≤◌, ◌+◌, ◌-◌, pos, IsTrue, IfSome, Some};
 ghost use Rattle.std.specs.Prelude.{None, ℕ};
 ghost use Rattle.std.specs.Prelude.{◌+ℤ◌, unwrap_or, is_some, true, false};
@@ -15,17 +14,16 @@ use cs_device::{Clock, Tick, Told};
 use std::time::{Duration, SystemTime};
 use std::{thread, time};
 
-/// The most minutes that the machine's clock can be put back and is waited for.
+/// If the machine's clock is put back by at most this many minutes, the daemon's waits for it.
 const LONGEST_WAIT: u64 = 60;
 
 /// The machine's clock at one offset from UTC, which a daemon looks at once a second.
 ///
-/// Where the machine's clock is put back by at most an hour, this one stands still until that has
-/// caught up: it tells its latest minute, so that no minute comes twice. Where it's put back
-/// further, it goes back too. The attendant is told of either, and not again until the machine's
-/// clock has caught up.
+/// If the machine's clock is put back by at most an hour, this one stands still until that has
+/// caught up, so that no minute comes twice. If it's put back further, this one goes back too. The
+/// attendant learns of either once, until the machine's clock has caught up.
 ///
-/// [`Stop`](Tick::Stop) where the daemon is asked to end: the attendant says so, once a second.
+/// [`Stop`](Tick::Stop) when the attendant says that the daemon is asked to end.
 /// [`Failed`](Tick::Failed) if the machine has no time, or it isn't from 1970-01-02 00:00 to
 /// 9999-12-31 23:59 at the offset. After 2^64 - 1 failures, another is [`Stop`](Tick::Stop).
 #[derive(Drop)]
@@ -62,12 +60,11 @@ impl<'r, R: time::Clock, A: Attendant> MachineClock<'r, R, A> {
         }
     }
 
-    /// Returns this clock for another daemon, at another offset and with another attendant, and the
-    /// attendant that it had. It keeps its limit, and its first and latest minutes are the same
-    /// instants, if they are in range there.
+    /// Returns this clock for the next daemon, and the attendant that it had. Its first and latest
+    /// minutes are the same instants, if they are in range at the other offset.
     ///
-    /// Where it has a latest minute, that is its first answer, unless the limit is over: so no
-    /// minute comes twice or gets lost between two daemons.
+    /// If it has a latest minute, that is its first answer, unless the limit is over: so no minute
+    /// comes twice or gets lost between two daemons.
     pub fn resumed<B>(self, offset: i16, attendant: B) -> (MachineClock<'r, R, B>, A)
         ensures told { result.0.told ≡ nothing_told }
         ensures asked { (result.0.offset ≡ offset) × (result.0.limit ≡ self.entry.limit) }
@@ -91,14 +88,13 @@ impl<'r, R: time::Clock, A: Attendant> MachineClock<'r, R, A> {
         (clock, self.attendant)
     }
 
-    /// Returns its offset.
+    /// Returns its offset, in minutes ahead of UTC.
     pub fn offset(&self) -> i16
         ensures { result ≡ self.now.offset }
     {
         self.offset
     }
 
-    /// The clock's answer after a second.
     fn wait(&mut self) -> Tick
         ensures { self.new.told ≡ self.old.told }
     {
@@ -109,7 +105,6 @@ impl<'r, R: time::Clock, A: Attendant> MachineClock<'r, R, A> {
         self.look()
     }
 
-    /// The clock's answer.
     fn look(&mut self) -> Tick
         ensures { self.new.told ≡ self.old.told }
     {
@@ -124,7 +119,6 @@ impl<'r, R: time::Clock, A: Attendant> MachineClock<'r, R, A> {
         self.show(minute)
     }
 
-    /// Tells the attendant if the machine's clock went back, unless it is told already.
     fn watch(&mut self, minute: Minute)
         ensures told { is_behind self.old.latest minute ≡ true → self.old.is_back ≡ false
             → (back : ClockBack) × IsBackAt self.old.latest minute back
@@ -144,7 +138,6 @@ impl<'r, R: time::Clock, A: Attendant> MachineClock<'r, R, A> {
         self.is_back = back.is_some();
     }
 
-    /// The minute to tell where the machine's clock shows this one.
     fn hold(&mut self, minute: Minute) -> Minute
         ensures value { result ≡ held self.old.latest minute }
         ensures latest { self.new
@@ -165,7 +158,6 @@ impl<'r, R: time::Clock, A: Attendant> MachineClock<'r, R, A> {
         }
     }
 
-    /// The clock's answer at a minute.
     fn show(&mut self, minute: Minute) -> Tick
         ensures tick { result ≡ shown self.old.limit self.old.first minute }
         ensures first { self.new
@@ -183,14 +175,12 @@ impl<'r, R: time::Clock, A: Attendant> MachineClock<'r, R, A> {
     }
 }
 
-/// A minute of a clock at one offset, as one at another offset shows it, if that is in range.
 fn moved(offset: i16, minute: Option<Minute>, other_offset: i16) -> Option<Minute>
     ensures { IsMoved offset minute other_offset result }
 {
     minute_ahead(minute?, i32::from(other_offset) - i32::from(offset))
 }
 
-/// The minute that many minutes later, if it is in range.
 fn minute_ahead(minute: Minute, by: i32) -> Option<Minute>
     ensures value { IfSome result (λ ahead. pos ahead ≡ pos minute +ℤ by) }
     ensures in_range { (n : ℕ) → first_minute ≤ n → n ≤ last_minute
@@ -199,7 +189,6 @@ fn minute_ahead(minute: Minute, by: i32) -> Option<Minute>
     Minute::new(u64::try_from(minute.number() as i64 + i64::from(by)).ok()?)
 }
 
-/// By how much the machine's clock is behind, if it is.
 fn back_at(latest: Option<Minute>, shown: Minute) -> Option<ClockBack>
     ensures behind { is_some result ≡ is_behind latest shown }
     ensures back { IfSome result (IsBackAt latest shown) }
@@ -215,7 +204,6 @@ fn back_at(latest: Option<Minute>, shown: Minute) -> Option<ClockBack>
     })
 }
 
-/// Whether the machine's clock is behind by so little that it's waited for.
 fn is_near(latest: Minute, minute: Minute) -> bool
     ensures { IsTrue result ↔ (latest - minute ≤ 60) }
 {
@@ -229,7 +217,6 @@ pub fn unix_seconds<R: time::Clock>(rt: &R) -> Option<u64> {
     Some(since.as_secs())
 }
 
-/// The minute this many seconds after 1970-01-01 00:00 UTC, if it is in range.
 pub(crate) fn minute_after(seconds: u64, offset: i16) -> Option<Minute>
     ensures { result ≡ clock_minute offset seconds }
 {

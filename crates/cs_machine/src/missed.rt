@@ -1,17 +1,14 @@
-//! How many runs of the crontab an outage misses.
-
 use crate::next_due::is_due_on;
 use crate::setup::JobNote;
 use cs_civil::{Minute, kind_of, read_minute};
 
-/// How many minutes of an outage are looked at: those of 366 days.
+/// The most minutes of an outage that are counted: those of 366 days.
 const LOOKED_AT: u64 = 527_040;
 
-/// The length of a minute's text.
 const MINUTE_TEXT: usize = 16;
 
-/// The minutes of an outage, as a line like `outage 2024-09-13 23:30 to 2024-09-14 01:00` tells it:
-/// the last one before it, and the one in which the daemon comes up. None for any other line.
+/// The minutes in a line like `outage 2024-09-13 23:30 to 2024-09-14 01:00`: the last one before
+/// the outage, and the one in which the daemon comes up. None for any other line.
 fn outage_in(words: &[u8]) -> Option<(Minute, Minute)> {
     let behind = words.strip_prefix(b"outage ")?;
     let (latest, behind) = behind.split_at_checked(MINUTE_TEXT)?;
@@ -19,7 +16,6 @@ fn outage_in(words: &[u8]) -> Option<(Minute, Minute)> {
     Some((read_minute(latest).ok()?, read_minute(up).ok()?))
 }
 
-/// Of how many jobs the line is due at this minute.
 fn due_count(jobs: &[JobNote], minute: Minute) -> u64 {
     let kind = kind_of(minute.day());
     let mut count = 0u64;
@@ -31,9 +27,9 @@ fn due_count(jobs: &[JobNote], minute: Minute) -> u64 {
     count
 }
 
-/// How many runs of these jobs' lines the outage that a line tells misses: those that are due
-/// after the latest minute before it, up to and with that of coming up, in its first 366 days, so
-/// that no line holds the log up for long; the last count of 64 bits stays. 0 for any other line.
+/// How many runs of the crontab the outage in a line misses: those due after the last minute before
+/// it, up to and with that of coming up. Only its first 366 days count, so that no line holds the
+/// log up for long. 0 for any other line.
 pub(crate) fn missed_by(words: &[u8], jobs: &[JobNote]) -> u64 {
     let Some((latest, up)) = outage_in(words) else {
         return 0;

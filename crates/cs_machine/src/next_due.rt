@@ -1,26 +1,26 @@
-//! What the lines of a daemon's crontab have due next.
+//! What a daemon's crontab has due next.
 //!
-//! A state tells what is due behind the minute that the machine's clock shows. The daemon's own clock
-//! may show another. While it waits for a clock that was put back, what is told may be a run that has
-//! been. In the second in which a minute begins, a run that is due then is told no more, though it
-//! may not have started yet.
+//! A state names what is due after the minute that the machine's clock shows. The daemon's own
+//! clock may show another: while it waits for a clock that was put back, that run may have been
+//! already. In the second in which a minute begins, a run that is due then is no longer named,
+//! though it may not have started yet.
 
 ghost use Rattle.std.specs.Prelude.{◌<◌};
 
 use crate::setup::JobNote;
 use cs_civil::{DayKind, Minute, kind_of};
 
-/// What is told of the job of a line, and the minute at which that line is due next.
+/// A job, and the minute at which its line is due next.
 #[derive(Clone, Copy)]
 pub(crate) struct NextDue<'a> {
     pub(crate) note: &'a JobNote,
     pub(crate) minute: Minute,
 }
 
-/// How many minutes ahead are looked at: those of 8 days.
+/// The most minutes ahead that are looked at: those of 8 days.
 const AHEAD: u64 = 11_520;
 
-/// Whether the job's line is due at this minute, from 0, of a day of this kind.
+/// False for a job of the anacrontab.
 pub(crate) fn is_due_on(note: &JobNote, kind: DayKind, minute_of_day: u16) -> bool
     requires { minute_of_day < 1440 }
 {
@@ -30,7 +30,6 @@ pub(crate) fn is_due_on(note: &JobNote, kind: DayKind, minute_of_day: u16) -> bo
     }
 }
 
-/// The first job whose line is due at this minute.
 fn due_at<'a>(jobs: &'a [JobNote], minute: Minute) -> Option<&'a JobNote> {
     let kind = kind_of(minute.day());
     for note in jobs {
@@ -41,7 +40,6 @@ fn due_at<'a>(jobs: &'a [JobNote], minute: Minute) -> Option<&'a JobNote> {
     None
 }
 
-/// What is due first from one minute on and before another.
 fn first_due<'a>(jobs: &'a [JobNote], from: u64, end: u64) -> Option<NextDue<'a>> {
     for number in from..end {
         let minute = Minute::new(number)?;
@@ -55,18 +53,16 @@ fn first_due<'a>(jobs: &'a [JobNote], from: u64, end: u64) -> Option<NextDue<'a>
 /// Minutes for which it's known that no line is due, so that each is looked at about once.
 #[derive(Clone, Copy)]
 pub(crate) struct QuietTime {
-    /// The first of them.
     from: u64,
-    /// The first one behind them.
+    /// The first one after them.
     end: u64,
 }
 
 impl QuietTime {
-    /// Nothing is known.
     pub(crate) const NONE: QuietTime = QuietTime { from: 0, end: 0 };
 }
 
-/// What is due first behind a minute, within the next 8 days.
+/// What is due first after a minute, within the next 8 days.
 pub(crate) fn next_due<'a>(
     jobs: &'a [JobNote],
     quiet: &mut QuietTime,

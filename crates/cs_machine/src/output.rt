@@ -1,4 +1,3 @@
-//! A folder in which the output of each run has a file of its own.
 ghost use Rattle.std.specs.Prelude.{◌≡◌, ◌++◌, Some, drop, string_bytes};
 ghost use Rattle.std.specs.Prelude.{IfOk, OnOk, length, take, true, ◌+◌};
 ghost use Rattle.cs_machine.specs.Output.{AreOld, AreOthers, is_moment};
@@ -14,8 +13,8 @@ use std::io::ErrorKind;
 use std::rt::Files;
 use std::{fs, io};
 
-/// A folder in which the output of each run has a file of its own: of the run
-/// `line 3 due 2024-09-13 23:30` it's `2024-09-13T23:30-line-3`. So a job's files have the same end,
+/// A folder in which the output of each run has a file of its own: that of the run
+/// `line 3 due 2024-09-13 23:30` is `2024-09-13T23:30-line-3`. So a job's files have the same end,
 /// and are in the order of their minutes.
 #[derive(Drop)]
 pub struct OutputFolder {
@@ -23,10 +22,10 @@ pub struct OutputFolder {
     keep: u64,
 }
 
-/// The shape of the moment in front of a file's name, with `0` for each digit.
+/// How a file's name begins, with `0` for each digit.
 const SHAPE: &[u8] = b"0000-00-00T00:00";
 
-/// The name of a run's file. An error too if the run's name isn't like `line 3 due 2024-09-13 23:30`.
+/// An error too if the run's name has fewer than five words.
 fn output_name(alloc: Global, run: &[u8]) -> io::Result<Bytes>
     ensures { IfOk result (λ name. output_name run.now ≡ Some name) }
 {
@@ -46,14 +45,12 @@ fn output_name(alloc: Global, run: &[u8]) -> io::Result<Bytes>
     Ok(Bytes::from_vec(name))
 }
 
-/// A byte, or `0` for a digit.
 fn zeroed(byte: u8) -> u8
     ensures { result ≡ zeroed byte }
 {
     if byte.is_ascii_digit() { b'0' } else { byte }
 }
 
-/// Whether a text has the shape of a moment.
 fn is_moment(text: &[u8]) -> bool
     ensures { result ≡ is_moment text.now }
 {
@@ -68,7 +65,6 @@ fn is_moment(text: &[u8]) -> bool
     true
 }
 
-/// The first bytes of a text, so many, and what stands behind them.
 fn parts(text: &[u8], count: usize) -> (&[u8], &[u8])
     ensures front { result.0.now ≡ take count text.now }
     ensures behind { result.1.now ≡ drop count text.now }
@@ -79,7 +75,6 @@ fn parts(text: &[u8], count: usize) -> (&[u8], &[u8])
     }
 }
 
-/// Whether a name is that of another file of the same job.
 fn is_other_of(file: &[u8], name: &[u8]) -> bool
     ensures { result ≡ is_other_of file.now name.now }
 {
@@ -88,7 +83,6 @@ fn is_other_of(file: &[u8], name: &[u8]) -> bool
     name != file && is_moment(moment) && behind == wanted
 }
 
-/// Adds a name, if it is that of another file of the same job. The only error is out of memory.
 fn add_other(
     alloc: Global,
     names: &mut Vec<String>,
@@ -107,8 +101,8 @@ fn add_other(
     Ok(())
 }
 
-/// Adds the names of a folder's other files of the job of this file. One that can't be read or isn't
-/// UTF-8 isn't.
+/// Adds the names of a folder's other files of this file's job. A name that can't be read or isn't
+/// UTF-8 is ignored.
 fn add_others<R: Files>(
     rt: &R,
     alloc: Global,
@@ -126,7 +120,7 @@ fn add_others<R: Files>(
     Ok(())
 }
 
-/// Opens a file for appending, with two handles, and makes it if it isn't there. What is no file
+/// Opens a file for appending, with two handles, and makes it if it isn't there. Anything else
 /// isn't opened: a pipe would keep the daemon waiting.
 fn open_twice<R: Files>(rt: &R, path: &str) -> io::Result<(R::File, R::File)> {
     match fs::symlink_metadata(rt, path) {
@@ -143,8 +137,8 @@ fn open_twice<R: Files>(rt: &R, path: &str) -> io::Result<(R::File, R::File)> {
 }
 
 impl OutputFolder {
-    /// Returns the folder at that path, whether it's there or not. Of each job so many files are
-    /// kept, and at least one. The only error is out of memory.
+    /// Returns the folder at that path, whether it's there or not. It keeps `keep` files of each
+    /// job, at least one.
     pub fn new(alloc: Global, path: &str, keep: u64) -> Result<OutputFolder, AllocError>
         ensures path { IfOk result (λ folder. string_bytes folder.path ≡ path.now) }
         ensures keep { IfOk result (λ folder. folder.keep ≡ keep) }
@@ -153,7 +147,6 @@ impl OutputFolder {
         Ok(OutputFolder { path, keep })
     }
 
-    /// The names of the files that are removed before this one is opened.
     fn old<R: Files>(&self, rt: &R, alloc: Global, file: &[u8]) -> io::Result<Vec<String>>
         ensures { IfOk result (λ names. AreOld file.now self.now.keep names.items) }
     {
@@ -165,7 +158,7 @@ impl OutputFolder {
         Ok(names)
     }
 
-    /// The path of a file in the folder. An error too if that can't be a file's name.
+    /// An error too if that can't be a file's name.
     fn path_of(&self, alloc: Global, name: &[u8]) -> io::Result<String> {
         Ok(path_in(alloc, self.path.as_str(), file_name(name)?)?)
     }
@@ -179,8 +172,8 @@ impl OutputFolder {
         Ok(())
     }
 
-    /// Opens the file of a run for appending, twice, once its job's oldest files are removed, so that
-    /// with it at most so many are left as are kept. What can't be listed or removed stays.
+    /// Opens the file of a run with two handles, after removing its job's oldest files, so that
+    /// with it at most as many as are kept remain. What can't be listed or removed stays.
     pub(crate) fn open<R: Files>(
         &self,
         rt: &R,
@@ -194,8 +187,6 @@ impl OutputFolder {
     }
 }
 
-/// Adds what is told of a run whose file can't be opened, with the machine's error. The only error is
-/// out of memory.
 pub(crate) fn push_output_fault(
     text: &mut Vec<u8>,
     run: &[u8],

@@ -1,4 +1,3 @@
-//! The paths of the files in a folder.
 ghost use Rattle.std.specs.Prelude.{◌≡◌, IsErr, IfOk, string_bytes};
 ghost use Rattle.std.specs.List.{list_any};
 ghost use Rattle.std.specs.Str.{IsUtf8};
@@ -8,7 +7,6 @@ use std::alloc::{AllocError, Global};
 use std::io::ErrorKind;
 use std::{io, str};
 
-/// Whether a slash or a blank is among these bytes.
 fn has_kept_out(bytes: &[u8]) -> bool
     ensures { result ≡ list_any is_kept_out bytes.now }
 {
@@ -17,8 +15,7 @@ fn has_kept_out(bytes: &[u8]) -> bool
         .any(|byte| *byte == b'/' || *byte == b' ' || *byte == b'\t')
 }
 
-/// A name as text. An error exactly if it isn't UTF-8, or can't be the name of a file without blanks,
-/// like each identifier of an anacrontab.
+/// A name as text. An error exactly if it isn't UTF-8, has a blank, or can't be a file's name.
 pub(crate) fn file_name(name: &[u8]) -> io::Result<&str>
     ensures text { IfOk result (λ text. (text.now ≡ name.now) × IsFileName name.now) }
     ensures refused { IsErr result → ¬ (IsUtf8 name.now × IsFileName name.now) }
@@ -29,8 +26,6 @@ pub(crate) fn file_name(name: &[u8]) -> io::Result<&str>
     }
 }
 
-/// The path of the file of this name in a folder: the folder, `/` and the name. The only error is out
-/// of memory.
 pub(crate) fn path_in(alloc: Global, folder: &str, name: &str) -> Result<String, AllocError>
     ensures { IfOk result (λ path. string_bytes path ≡ file_of folder.now name.now) }
 {
@@ -40,8 +35,7 @@ pub(crate) fn path_in(alloc: Global, folder: &str, name: &str) -> Result<String,
     Ok(path)
 }
 
-/// The path at which that file is first written, which with its blank is no identifier's. The only
-/// error is out of memory.
+/// Where that file is written first. The blank in its name sets it apart from every identifier's.
 pub(crate) fn new_path_in(alloc: Global, folder: &str, name: &str) -> Result<String, AllocError>
     ensures { IfOk result (λ path. string_bytes path ≡ new_file_of folder.now name.now) }
 {

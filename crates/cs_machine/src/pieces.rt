@@ -1,8 +1,7 @@
-//! What stands between the separators of a text.
 ghost use Rattle.std.specs.Prelude.{◌≡◌, ◌==◌, option_map, slice_get};
 ghost use Rattle.std.specs.List.{slice_split};
 
-/// What stands between two separators of a text, by its number from 0. None if there are too few.
+/// The piece between two separators, by its number from 0.
 pub(crate) fn piece(text: &[u8], separator: u8, index: usize) -> Option<&[u8]>
     ensures { option_map (λ piece. piece.now) result
         ≡ slice_get (slice_split (λ b. b == separator) text.now) index }

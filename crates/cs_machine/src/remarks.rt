@@ -1,11 +1,9 @@
-//! What runners have to tell.
 use cs_civil::Bytes;
 use std::alloc::Global;
 use std::mem;
 use std::sync::{Mutex, Wait};
 
-/// What the runners of a daemon have to tell, such as why a command can't be started, until the
-/// daemon's log takes it.
+/// What runners report, such as why a command can't be started, until the daemon's log takes it.
 #[derive(Drop)]
 pub struct Remarks {
     alloc: Global,
@@ -13,7 +11,7 @@ pub struct Remarks {
 }
 
 impl Remarks {
-    /// Returns remarks of which there are none yet.
+    /// Returns an empty store.
     pub fn new(alloc: Global) -> Remarks {
         Remarks {
             alloc,
@@ -21,12 +19,12 @@ impl Remarks {
         }
     }
 
-    /// Leaves a text for one line of the log. Where memory runs out, it is lost.
+    /// Leaves a text for one line of the log. If memory runs out, it is lost.
     pub(crate) fn leave<R: Wait>(&self, rt: &R, text: Vec<u8>) {
         let _ = self.left.lock(rt).push(Bytes::from_vec(text));
     }
 
-    /// Takes the texts that were left since they were taken last, in their order.
+    /// Takes the texts that were left since the last call, in their order.
     pub fn take<R: Wait>(&self, rt: &R) -> Vec<Bytes> {
         mem::replace(&mut *self.left.lock(rt), Vec::new(self.alloc))
     }

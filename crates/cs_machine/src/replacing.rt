@@ -1,11 +1,10 @@
-//! Files that are read up to a length, written whole, or removed.
 use std::alloc::Global;
 use std::fs::{OpenFile, OpenOptions};
 use std::io::{ErrorKind, Read, Write};
 use std::rt::Files;
 use std::{fs, io};
 
-/// Removes a file. That there is none is no error.
+/// Succeeds if there is none.
 pub(crate) fn remove_file<R: Files>(rt: &R, path: &str) -> io::Result<()> {
     match fs::remove_file(rt, path) {
         Err(error) if error.kind() == ErrorKind::NotFound => Ok(()),
@@ -13,7 +12,6 @@ pub(crate) fn remove_file<R: Files>(rt: &R, path: &str) -> io::Result<()> {
     }
 }
 
-/// Reads the first bytes of a file, at most so many.
 pub(crate) fn read_first<R: Files>(
     rt: &R,
     alloc: Global,
@@ -26,9 +24,9 @@ pub(crate) fn read_first<R: Files>(
     Ok(text)
 }
 
-/// Writes a text to a new file, flushes it to the disk, renames it to another path in the same
-/// folder, and flushes that too. So a crash leaves the old file there or the new one. What stands in
-/// the new file's place is removed first, and not opened: it may be a pipe or a link.
+/// Replaces a file so that a crash leaves the old one or the new one: writes a new file, flushes it
+/// to the disk, renames it, and flushes the folder. What stands in the new file's place is removed
+/// first, and not opened: it may be a pipe or a link.
 pub(crate) fn replace_file<R: Files>(
     rt: &R,
     folder: &str,

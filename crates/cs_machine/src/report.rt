@@ -1,4 +1,3 @@
-//! What a daemon tells of itself, read back.
 ghost use Rattle.std.specs.Prelude.{◌≡◌, IfOk, IfSome, false};
 ghost use Rattle.std.specs.List.{list_any};
 ghost use Rattle.cs_place.specs.Places.{is_control};
@@ -11,24 +10,23 @@ use cs_json::{BAD_SHAPE, Misread, member, parse, value_at};
 use serde_json::Value;
 use std::alloc::{AllocError, Global};
 
-/// What a daemon told of itself at a moment.
+/// A daemon's state at a moment, read back.
 #[derive(Drop)]
 pub struct Report {
-    /// When it was told, in seconds since 1970-01-01 00:00 UTC.
+    /// In seconds since 1970-01-01 00:00 UTC.
     at: u64,
     is_stopping: bool,
-    /// Whether a run that runs is late.
     has_late: bool,
     stamp_fault_at: Option<u64>,
-    /// What is told of it for people.
+    /// Its text for people.
     lines: Vec<u8>,
 }
 
-/// The seconds for which what was told, or a stamp that couldn't be written, counts: two minutes.
+/// For this many seconds a state is fresh, and a stamp that couldn't be written counts.
 const SECONDS: u64 = 120;
 
-/// The moment of a text like `2024-09-13T23:30:01Z`, in seconds since 1970-01-01 00:00 UTC, from
-/// 1970-01-02 on. None for any other text.
+/// The seconds since 1970-01-01 00:00 UTC of a text like `2024-09-13T23:30:01Z`, from 1970-01-02
+/// on. None for any other text.
 fn read_moment(text: &[u8]) -> Option<u64>
     ensures { IfSome result (λ at. text.now ≡ moment_text at) }
 {
@@ -50,14 +48,12 @@ fn read_moment(text: &[u8]) -> Option<u64>
     }
 }
 
-/// Whether a terminal would take one of these bytes for something else.
 fn has_control(bytes: &[u8]) -> bool
     ensures { result ≡ list_any is_control bytes.now }
 {
     bytes.iter().any(|byte| *byte < 32 || *byte == 127)
 }
 
-/// A text in which there is no control character.
 fn plain_text(value: &Value) -> Result<&str, Misread>
     ensures { IfOk result (λ text. list_any is_control text.now ≡ false) }
 {
@@ -67,7 +63,7 @@ fn plain_text(value: &Value) -> Result<&str, Misread>
     }
 }
 
-/// Such a text; none where it is null or, as a daemon of an earlier version tells it, no member.
+/// None if it is null or, as from a daemon of an earlier version, absent.
 fn text_if_told(told: Option<&Value>) -> Result<Option<&str>, Misread> {
     let Some(told) = told else {
         return Ok(None);
@@ -78,17 +74,14 @@ fn text_if_told(told: Option<&Value>) -> Result<Option<&str>, Misread> {
     Ok(Some(plain_text(told)?))
 }
 
-/// Such a text that is a member.
 fn text_at<'v>(value: &'v Value, name: &str) -> Result<&'v str, Misread> {
     plain_text(value_at(value, name)?)
 }
 
-/// The seconds of a moment that is a member.
 fn seconds_at(value: &Value, name: &str) -> Result<u64, Misread> {
     read_moment(text_at(value, name)?.as_bytes()).ok_or(BAD_SHAPE)
 }
 
-/// The seconds of a moment, if there is one.
 fn seconds_if_told(moment: Option<&str>) -> Result<Option<u64>, Misread> {
     let Some(moment) = moment else {
         return Ok(None);
@@ -99,8 +92,8 @@ fn seconds_if_told(moment: Option<&str>) -> Result<Option<u64>, Misread> {
     }
 }
 
-/// Refuses a checksum of the certificate that isn't 64 hexadecimal digits, in lower case. A daemon of
-/// an earlier version tells none.
+/// Refuses a checksum that isn't 64 hexadecimal digits, in lower case. A daemon of an earlier
+/// version writes none.
 fn see_checksum(value: &Value) -> Result<(), Misread> {
     let Some(told) = value.get("certificate_sha256") else {
         return Ok(());
@@ -118,7 +111,6 @@ fn see_checksum(value: &Value) -> Result<(), Misread> {
     }
 }
 
-/// The items of a member that is a list.
 fn items_at<'v>(value: &'v Value, name: &str) -> Result<&'v [Value], Misread> {
     match value_at(value, name)?.as_array() {
         Some(items) => Ok(items.as_slice()),
@@ -126,7 +118,7 @@ fn items_at<'v>(value: &'v Value, name: &str) -> Result<&'v [Value], Misread> {
     }
 }
 
-/// Adds the texts that are told, each behind what stands in front of it.
+/// Adds the texts that are there, each after its front.
 fn push_told(lines: &mut Vec<u8>, texts: &[(&str, Option<&str>)]) -> Result<(), AllocError> {
     for (front, told) in texts {
         if let Some(told) = told {
@@ -137,7 +129,7 @@ fn push_told(lines: &mut Vec<u8>, texts: &[(&str, Option<&str>)]) -> Result<(), 
     Ok(())
 }
 
-/// Adds numbers below 2^64 that are members, each behind what stands in front of it.
+/// Adds members that are numbers below 2^64, each after its front.
 fn push_counts(
     lines: &mut Vec<u8>,
     value: &Value,
@@ -152,7 +144,6 @@ fn push_counts(
     Ok(())
 }
 
-/// Adds when the daemon began, when it was seen, and its files.
 fn push_head(lines: &mut Vec<u8>, value: &Value) -> Result<(), Misread> {
     let (since, at) = (text_at(value, "since")?, text_at(value, "at")?);
     let table = text_at(value, "table")?;
@@ -173,7 +164,7 @@ fn push_head(lines: &mut Vec<u8>, value: &Value) -> Result<(), Misread> {
     Ok(())
 }
 
-/// Adds the line of a run that runs, and returns whether it's late.
+/// Returns whether the run is late.
 fn push_run(alloc: Global, lines: &mut Vec<u8>, run: &Value) -> Result<bool, Misread> {
     seconds_at(run, "since")?;
     let until = text_if_told(run.get("until"))?;
@@ -199,7 +190,6 @@ fn push_run(alloc: Global, lines: &mut Vec<u8>, run: &Value) -> Result<bool, Mis
     Ok(late)
 }
 
-/// Adds the lines of the runs that run, and returns whether one is late.
 fn push_running(alloc: Global, lines: &mut Vec<u8>, value: &Value) -> Result<bool, Misread> {
     let mut has_late = false;
     for run in items_at(value, "running")? {
@@ -208,7 +198,6 @@ fn push_running(alloc: Global, lines: &mut Vec<u8>, value: &Value) -> Result<boo
     Ok(has_late)
 }
 
-/// Adds a line for each run that waits, and one for what is due next.
 fn push_waiting(lines: &mut Vec<u8>, value: &Value) -> Result<(), Misread> {
     for name in items_at(value, "waiting")? {
         let name = plain_text(name)?;
@@ -221,8 +210,7 @@ fn push_waiting(lines: &mut Vec<u8>, value: &Value) -> Result<(), Misread> {
     Ok(())
 }
 
-/// Adds a line of how often something went wrong. A daemon of an earlier version doesn't tell how many
-/// runs the outages missed.
+/// A daemon of an earlier version doesn't write `missed`.
 fn push_faults(alloc: Global, lines: &mut Vec<u8>, value: &Value) -> Result<(), Misread> {
     let members = [
         ("skipped ", "skipped"),
@@ -242,7 +230,6 @@ fn push_faults(alloc: Global, lines: &mut Vec<u8>, value: &Value) -> Result<(), 
     Ok(())
 }
 
-/// The report of a state.
 fn report_of(alloc: Global, value: &Value) -> Result<Report, Misread> {
     let at = seconds_at(value, "at")?;
     seconds_at(value, "since")?;
@@ -267,22 +254,21 @@ fn report_of(alloc: Global, value: &Value) -> Result<Report, Misread> {
     })
 }
 
-/// Reads the text of a daemon's state. A fault if it is no JSON, a member is absent or has another
-/// type, or a text in it holds a control character; other members are passed over. `next_due`,
-/// `missed` and `certificate_sha256` may be absent, and so may a run's `until` and `may_meet`.
+/// Reads the text of a daemon's state. A fault if it isn't JSON, a member is absent or has another
+/// type, or a text in it holds a control character; other members are ignored. `next_due`, `missed`
+/// and `certificate_sha256` may be absent, and so may a run's `until` and `may_meet`.
 pub fn read_report(alloc: Global, state: &[u8]) -> Result<Report, Misread> {
     let value = parse(alloc, state)?;
     report_of(alloc, &value)
 }
 
 impl Report {
-    /// Returns what is told of it for people: lines.
+    /// Returns its text for people, in lines.
     pub fn into_lines(self) -> Vec<u8> {
         self.lines
     }
 
-    /// Whether a run that runs is late, or a stamp couldn't be written in the last two minutes before
-    /// it was told.
+    /// Whether a run is late, or a stamp couldn't be written in the two minutes before this state.
     pub fn has_fault(&self) -> bool
         ensures { result ≡ has_fault self.now.at self.now.stamp_fault_at self.now.has_late }
     {
@@ -292,8 +278,9 @@ impl Report {
         }
     }
 
-    /// Whether it was told more than two minutes before this moment, in seconds since 1970-01-01 00:00
-    /// UTC. A daemon that starts nothing more tells its state no more, and that isn't called old.
+    /// Whether it is more than two minutes older than this moment, in seconds since 1970-01-01
+    /// 00:00 UTC. A daemon that starts nothing more writes no more states: its last isn't called
+    /// old.
     pub fn is_old(&self, now: u64) -> bool
         ensures { result ≡ is_old self.now.is_stopping self.now.at now }
     {

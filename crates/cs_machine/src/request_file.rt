@@ -1,4 +1,3 @@
-//! The files by which a daemon is asked for something.
 ghost use Rattle.std.specs.Prelude.{◌≡◌, IfOk, string_bytes};
 ghost use Rattle.cs_machine.specs.Files.{reload_file_of, stop_file_of};
 
@@ -10,16 +9,15 @@ use std::io::ErrorKind;
 use std::rt::Files;
 use std::{fs, io};
 
-/// A file in a folder of stamps by which the daemon that uses the folder is asked for something.
-/// With its blank it is no identifier's stamp.
+/// A file by which the daemon that uses a folder of stamps is asked for something. The blank in its
+/// name sets it apart from every stamp.
 #[derive(Drop)]
 pub struct RequestFile {
     path: String,
 }
 
 impl RequestFile {
-    /// Returns the file by which a folder's daemon is asked to end, whether it's there or not. The
-    /// only error is out of memory.
+    /// Returns the file that asks a folder's daemon to end, whether it's there or not.
     pub fn to_stop(alloc: Global, folder: &str) -> Result<RequestFile, AllocError>
         ensures { IfOk result (λ file. string_bytes file.path ≡ stop_file_of folder.now) }
     {
@@ -27,8 +25,8 @@ impl RequestFile {
         Ok(RequestFile { path })
     }
 
-    /// Returns the file by which a folder's daemon is asked to read its tables again, whether it's
-    /// there or not. The only error is out of memory.
+    /// Returns the file that asks a folder's daemon to read its tables again, whether it's there or
+    /// not.
     pub fn to_reload(alloc: Global, folder: &str) -> Result<RequestFile, AllocError>
         ensures { IfOk result (λ file. string_bytes file.path ≡ reload_file_of folder.now) }
     {
@@ -41,7 +39,7 @@ impl RequestFile {
         fs::symlink_metadata(rt, self.path.as_str()).is_ok()
     }
 
-    /// Makes the file. That it is there already is no error.
+    /// Makes the file, unless it is there already.
     pub fn make<R: Files>(&self, rt: &R) -> io::Result<()> {
         let made = OpenOptions::new()
             .write(true)
@@ -54,7 +52,7 @@ impl RequestFile {
         }
     }
 
-    /// Removes the file. That there is none is no error.
+    /// Removes the file, if it is there.
     pub fn remove<R: Files>(&self, rt: &R) -> io::Result<()> {
         remove_file(rt, self.path.as_str())
     }

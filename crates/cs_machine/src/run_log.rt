@@ -1,4 +1,3 @@
-//! The daemon's log, and the state that it tells.
 ghost use Rattle.std.specs.Prelude.{◌≡◌, ◌++◌, ℕ, List, Option, None, OnOk};
 ghost use Rattle.std.specs.Prelude.{[], Bool, true, false};
 ghost use Rattle.std.specs.Io.KnownBytes.{Appends};
@@ -15,14 +14,14 @@ use std::alloc::Global;
 use std::io::Write;
 use std::{io, mem, time};
 
-/// Writes a daemon's log, and keeps the state that it tells. Each text that is written to it is taken
-/// as one line, and is written at once to another writer: as it is, or with the time in UTC before it:
+/// Writes a daemon's log to another writer, and keeps the daemon's state. Each text that is written
+/// to it is one line, and goes on at once: as it is, or with the time in UTC before it:
 ///
 /// `2024-09-13T23:30:01Z started line 1 due 2024-09-13 23:30`
 ///
 /// With times, the end of a run whose start was written is followed by the seconds between them, 0
-/// where the clock was put back meanwhile. Where the clock can't be read, a line has no time. Behind
-/// the line of a late run comes one that tells which jobs' runs it may meet, if there are any:
+/// if the clock was put back meanwhile. If the clock can't be read, a line has no time. After the
+/// line of a late run comes one with the jobs whose runs it may meet, if there are any:
 ///
 /// `2024-09-13T23:42:00Z line 1 due 2024-09-13 23:30 may meet line 5, job backup`
 #[derive(Drop)]
@@ -35,13 +34,12 @@ pub struct RunLog<'r, R, W> {
     line: Vec<u8>,
     state: State,
     quiet: QuietTime,
-    /// What commands of the operator's are to be started for, and wasn't taken yet.
+    /// What hooks are to be called for.
     calls: Vec<HookCall>,
 }
 
 impl<'r, R: time::Clock, W: Write> RunLog<'r, R, W> {
-    /// Returns the log of a daemon that begins so, over another writer, with no line yet, and with
-    /// times or without.
+    /// Returns a log without lines, over another writer.
     pub fn new(
         rt: &'r R,
         alloc: Global,
@@ -67,7 +65,7 @@ impl<'r, R: time::Clock, W: Write> RunLog<'r, R, W> {
         }
     }
 
-    /// Writes a line of our own, given without its newline, with its time; not in a log without times.
+    /// Writes a line of our own, given without its newline; not in a log without times.
     pub fn note(&mut self, text: &[u8]) -> io::Result<()>
         ensures timed { self.old.is_timed ≡ true → OnOk result ((at : Option ℕ)
             × Appends (W.contents self.old.out) (W.contents self.new.out)
@@ -90,9 +88,8 @@ impl<'r, R: time::Clock, W: Write> RunLog<'r, R, W> {
         self.out.write_all(self.line.as_slice())
     }
 
-    /// Takes a line of the daemon, given without its newline, and writes it with its time, and with
-    /// for how long a run took whose end it tells; by the same call the line that follows it, if a run
-    /// is late. Where memory runs out for what it tells, the line is written nevertheless.
+    /// Writes a line of the daemon, and by the same call the line that follows it. If memory runs
+    /// out for the state, the line is written nevertheless.
     fn tell(&mut self, words: &[u8]) -> io::Result<()>
         ensures calls { (kept : Bool) × IsCalled self.old.setup words.now kept
             self.old.calls.items self.new.calls.items }
@@ -111,8 +108,8 @@ impl<'r, R: time::Clock, W: Write> RunLog<'r, R, W> {
         self.out.write_all(self.line.as_slice())
     }
 
-    /// Takes a line of the daemon, and writes it as it is. Where memory runs out for what it tells,
-    /// the line is written nevertheless.
+    /// Writes a line of the daemon as it is. If memory runs out for the state, the line is written
+    /// nevertheless.
     fn pass(&mut self, words: &[u8], line: &[u8]) -> io::Result<()>
         ensures calls { (kept : Bool) × IsCalled self.old.setup words.now kept
             self.old.calls.items self.new.calls.items }
@@ -126,8 +123,7 @@ impl<'r, R: time::Clock, W: Write> RunLog<'r, R, W> {
         self.out.write_all(line)
     }
 
-    /// Notes what a line tells in this second, and returns for how many seconds a run took whose end
-    /// it tells.
+    /// Returns how many seconds a run took, if the line reports its end.
     fn take(&mut self, words: &[u8], at: Option<u64>) -> Option<u64>
         ensures calls { (kept : Bool) × IsCalled self.old.setup words.now kept
             self.old.calls.items self.new.calls.items }
@@ -138,7 +134,7 @@ impl<'r, R: time::Clock, W: Write> RunLog<'r, R, W> {
         self.state.take(words, at, self.setup.jobs)
     }
 
-    /// Takes what happened to runs since it was taken last, in the order of the log's lines: at most
+    /// Takes what happened to runs since the last call, in the order of the log's lines: at most
     /// 256 calls, and none for a daemon without hooks.
     pub fn take_calls(&mut self) -> Vec<HookCall>
         ensures taken { result.items ≡ self.old.calls.items }
@@ -162,8 +158,8 @@ impl<'r, R: time::Clock, W: Write> RunLog<'r, R, W> {
         self.note(why)
     }
 
-    /// The text of the state, if a line came since it was asked for last, or that is a minute ago; it
-    /// is one JSON object in one line. None too where the clock can't be read or memory runs out.
+    /// The state as one JSON object in one line, if a line came since the last call, or that was a
+    /// minute ago. None too if the clock can't be read or memory runs out.
     pub fn state_if_due(&mut self) -> Option<Vec<u8>>
         ensures left { (self.new.out ≡ self.old.out) × (self.new.setup ≡ self.old.setup)
             × (self.new.calls ≡ self.old.calls) }

@@ -1,19 +1,18 @@
-//! Runners for a daemon.
 ghost use Rattle.std.specs.Prelude.{◌≡◌, All, IfOk, vec_len};
 ghost use Rattle.cs_machine.specs.Runners.{IsMadeBy};
 
 use crate::output::OutputFolder;
 use std::alloc::{AllocError, Global};
 
-/// What each runner of a daemon is made with, as words.
+/// The settings of a daemon's runners.
 #[derive(Clone, Copy)]
 pub struct RunnerWords<'a> {
     /// Whether commands get the user's variables and run in the user's home folder.
     pub has_home: bool,
-    /// Whether a signal that ended a command is told.
+    /// Whether a signal that ended a command is reported.
     pub tells_signals: bool,
-    /// The path of the folder in which each run gets a file for its output; the daemon's own streams
-    /// where there is none.
+    /// The path of the folder in which each run gets a file for its output. If none, output goes to
+    /// the daemon's own streams.
     pub output: Option<&'a str>,
     /// How many files of each job are kept there, at least 1.
     pub keep: u64,
@@ -22,15 +21,14 @@ pub struct RunnerWords<'a> {
 /// What one runner is made with.
 #[derive(Drop)]
 pub struct RunnerSetup {
-    /// Whether commands get the user's variables and run in the user's home folder.
+    /// As in [`RunnerWords`].
     pub has_home: bool,
-    /// Whether a signal that ended a command is told.
+    /// As in [`RunnerWords`].
     pub tells_signals: bool,
-    /// The folder in which each run gets a file for its output, if there is one.
+    /// The folder for output, if there is one.
     pub output: Option<OutputFolder>,
 }
 
-/// Makes a runner by these words. The only error is out of memory.
 fn runner_by<W: Drop, F: Fn(RunnerSetup) -> W + Drop>(
     alloc: Global,
     words: RunnerWords<'_>,
@@ -50,8 +48,7 @@ fn runner_by<W: Drop, F: Fn(RunnerSetup) -> W + Drop>(
     }))
 }
 
-/// Makes this number of runners, each by a call of `new_runner` with what these words say. The only
-/// error is out of memory.
+/// Makes this number of runners, each by a call of `new_runner`.
 pub fn runners_by<W: Drop, F: Fn(RunnerSetup) -> W + Drop>(
     alloc: Global,
     number: u8,

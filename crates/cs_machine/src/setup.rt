@@ -1,26 +1,24 @@
-//! What a daemon was begun with.
 ghost use Rattle.std.specs.Prelude.{◌≡◌, option_map};
 ghost use Rattle.cs_machine.specs.Setup.{note_of, peers_of};
 
 use cs_civil::Bytes;
 use cs_schedule::Schedule;
 
-/// What a daemon tells of a job besides its runs.
+/// What a daemon reports of a job besides its runs.
 #[derive(Drop)]
 pub struct JobNote {
     /// What the names of its runs begin with, such as `line 3 due ` or `job backup at `.
     pub front: Bytes,
     /// The longest time of a run, in minutes.
     pub max: u64,
-    /// The names of the jobs whose runs may meet a run of it that is late, such as
-    /// `line 5, job backup`; none where it is empty.
+    /// The names of the jobs whose runs may meet a late run of it, such as `line 5, job backup`;
+    /// empty if there are none.
     pub peers: Bytes,
     /// When its line of the crontab is due; none for a job of the anacrontab.
     pub when: Option<Schedule>,
 }
 
-/// What a daemon was begun with: the program's version, its files, how much may run at once, the
-/// operator's clock, and what it tells of its jobs.
+/// What a daemon was begun with.
 #[derive(Clone, Copy)]
 pub struct Setup<'a> {
     /// The program's version, as `1.2.3`.
@@ -39,13 +37,12 @@ pub struct Setup<'a> {
     pub capacity: u64,
     /// The minutes by which the operator's clock is ahead of UTC.
     pub offset: i16,
-    /// What is told of its jobs. A run is of the first job whose front begins its name.
+    /// Its jobs. A run is of the first job whose front begins its name.
     pub jobs: &'a [JobNote],
-    /// Whether commands of the operator's are started at what happens to a run.
+    /// Whether it has hooks: commands of the operator's, started at what happens to a run.
     pub has_hooks: bool,
 }
 
-/// What is told of the job of this run.
 fn note_of<'a>(jobs: &'a [JobNote], run: &[u8]) -> Option<&'a JobNote>
     ensures { option_map (λ note. note.now) result ≡ note_of run.now jobs.now }
 {
@@ -57,8 +54,6 @@ fn note_of<'a>(jobs: &'a [JobNote], run: &[u8]) -> Option<&'a JobNote>
     None
 }
 
-/// The names of the jobs whose runs may meet this run if it is late; none where nothing is told of
-/// its job.
 pub(crate) fn peers_of<'a>(jobs: &'a [JobNote], run: &[u8]) -> &'a [u8]
     ensures { result.now ≡ peers_of run.now jobs.now }
 {
@@ -68,8 +63,8 @@ pub(crate) fn peers_of<'a>(jobs: &'a [JobNote], run: &[u8]) -> &'a [u8]
     }
 }
 
-/// The second by which this run is to end, which started in that one. None where nothing is told of
-/// its job, and where 64 bits don't hold it.
+/// The second by which a run that started in `since` is to end. None for a run of no job here, and
+/// where 64 bits don't hold it.
 pub(crate) fn end_of(jobs: &[JobNote], run: &[u8], since: u64) -> Option<u64> {
     let note = note_of(jobs, run)?;
     since.checked_add(note.max.checked_mul(60)?)

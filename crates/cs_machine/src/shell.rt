@@ -1,4 +1,3 @@
-//! The command line of a job.
 ghost use Rattle.std.specs.Prelude.{◌≡◌, ◌↔◌, ℕ, List, Some, None, IfSome, IsSome, option_map};
 ghost use Rattle.std.specs.Prelude.{true, false, IfOk, IfErr, OnOk};
 ghost use Rattle.std.specs.Prelude.{if◌then◌else◌, Option};
@@ -27,22 +26,19 @@ pub enum CommandFault {
     OutOfMemory,
 }
 
-/// The setting that names the shell (crontab(5)).
 const SHELL: &str = "SHELL";
 
-/// The shell if no setting names one (crontab(5)).
 const USUAL_SHELL: &str = "/bin/sh";
 
-/// The setting that names the folder of a command (crontab(5)).
 const HOME: &str = "HOME";
 
-/// Returns the process to start for a command: the shell that its setting `SHELL` names, by default
-/// `/bin/sh`, with `-c` and the command, and these settings and `SHELL` in its environment
-/// (crontab(5)).
+/// Returns the process to start for a command (crontab(5)): the shell that its setting `SHELL`
+/// names, by default `/bin/sh`, with `-c` and the command, and these settings and `SHELL` in its
+/// environment.
 ///
 /// With a home, `HOME`, `LOGNAME` and `USER` are the user's too, unless a setting says otherwise,
-/// and the folder is the one that `HOME` names (crontab(5)); without it the folder is the daemon's.
-/// The rest of the environment and the streams are the daemon's.
+/// and the folder is the one that `HOME` names; without it the folder is the daemon's. The rest of
+/// the environment and the streams are the daemon's.
 ///
 /// The last setting of a name counts. [`NotText`](CommandFault::NotText) if and only if the
 /// command, a name, a value, or the user's name or folder is not UTF-8 (this profile).
@@ -95,7 +91,7 @@ fn are_texts(command: &[u8], env: &[(Bytes, Bytes)], home: Option<&Home>) -> boo
     }
 }
 
-/// The process of a command of texts, none if memory runs out.
+/// None if memory runs out: its caller has seen that all texts are UTF-8.
 fn command_of(
     alloc: Global,
     command: &[u8],
@@ -119,7 +115,7 @@ fn command_of(
     Some(shell)
 }
 
-/// The process of a command without settings, in the daemon's folder.
+/// The process without the settings, in the daemon's folder.
 fn usual_command(
     alloc: Global,
     program: &str,
@@ -142,7 +138,6 @@ fn usual_command(
     Some(shell)
 }
 
-/// Sets a user's variables, where the user is known, and name and folder are UTF-8.
 fn set_user(shell: &mut Command, home: Option<&Home>) -> Option<()>
     ensures variables { IsSome result → (k : List ℕ) → (before : Option (List ℕ))
         → command_var shell.old k ≡ option_map Some before → command_var shell.new k
@@ -159,7 +154,6 @@ fn set_user(shell: &mut Command, home: Option<&Home>) -> Option<()>
     set(shell, b"USER".as_slice(), home.user.as_slice())
 }
 
-/// Sets the folder of a command, where its user is known and the folder is UTF-8.
 fn set_folder(shell: &mut Command, env: &[(Bytes, Bytes)], home: Option<&Home>) -> Option<()>
     requires { command_dir shell.old ≡ None }
     ensures folder { IsSome result
@@ -175,7 +169,7 @@ fn set_folder(shell: &mut Command, env: &[(Bytes, Bytes)], home: Option<&Home>) 
     Some(())
 }
 
-/// Sets a variable of a command's environment, where name and value are UTF-8.
+/// None if memory runs out, or name or value isn't UTF-8.
 fn set(shell: &mut Command, name: &[u8], value: &[u8]) -> Option<()>
     ensures variables { IsSome result → (k : List ℕ) → command_var shell.new k
         ≡ (if bytes_eq name.now k then Some (Some value.now) else command_var shell.old k) }
@@ -195,14 +189,13 @@ fn set(shell: &mut Command, name: &[u8], value: &[u8]) -> Option<()>
     }
 }
 
-/// The shell that settings name, if it is UTF-8.
+/// None if it isn't UTF-8.
 fn shell_of(env: &[(Bytes, Bytes)]) -> Option<&str>
     ensures { IfSome result (λ shell. value_of (with_shell env.now) shell_name ≡ Some shell.now) }
 {
     str::from_utf8(value_after(SHELL.as_bytes(), USUAL_SHELL.as_bytes(), env)).ok()
 }
 
-/// The value that settings give to a name, by default this one.
 fn value_after<'v>(name: &[u8], usual: &'v [u8], env: &'v [(Bytes, Bytes)]) -> &'v [u8]
     ensures { Some result.now ≡ fold (value_with name.now) (Some usual.now) env.now }
 {

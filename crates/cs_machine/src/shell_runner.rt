@@ -1,4 +1,3 @@
-//! Runs of commands on this machine.
 ghost use Rattle.std.specs.Prelude.{◌≡◌, ◌≢◌, ℤ, if◌then◌else◌, None, Some};
 ghost use Rattle.std.specs.Process.{exit_code, exit_signal};
 ghost use Rattle.cs_device.specs.declared.runner.Outcome.TheVariants.{Ended, Exited, Killed};
@@ -20,14 +19,13 @@ use std::process::{Child, Command, ExitStatus, OpenProcess, Processes, Stdio};
 use std::rt::Files;
 use std::sync::Wait;
 
-/// Runs each command with a shell of this machine (see [`shell_command`]). What it prints goes to the
-/// file of its run, if a folder for the output is given. Without one, and where the file can't be
-/// opened, it goes to the daemon's own standard output and standard error, also where those were
-/// opened by the daemon itself.
+/// Runs each command with a shell of this machine (see [`shell_command`]). Its output goes to the
+/// file of its run, if a folder for it is given and the file can be opened; else to the daemon's
+/// own standard output and standard error, even where the daemon itself opened those.
 ///
 /// A command that can't be started is [`NotStarted`](Outcome::NotStarted); after 2^64 - 1 of them,
-/// another is [`Ended`](Outcome::Ended). Why it, or the file of its run, can't be opened or started is
-/// told on the standard error, and left as a remark for the log.
+/// another is [`Ended`](Outcome::Ended). Why it can't be started, or the file of its run can't be
+/// opened, goes to the standard error, and is left as a remark for the log.
 #[derive(Drop)]
 pub struct ShellRunner<'r, P> {
     processes: &'r P,
@@ -41,7 +39,6 @@ pub struct ShellRunner<'r, P> {
     failures: Failures,
 }
 
-/// Why the machine can't start a process.
 fn start_fault(alloc: Global, shell: &Command, error: &io::Error) -> Result<Vec<u8>, AllocError> {
     let why = format!(in alloc; "{error}")?;
     let folder = match shell.get_current_dir() {
@@ -58,7 +55,6 @@ fn start_fault(alloc: Global, shell: &Command, error: &io::Error) -> Result<Vec<
     Ok(text)
 }
 
-/// Why the file of a run can't be opened.
 fn output_fault(
     alloc: Global,
     run: &[u8],
@@ -71,7 +67,6 @@ fn output_fault(
     Ok(text)
 }
 
-/// How a run ended, whose command ended so.
 fn outcome_of(status: ExitStatus, tells_signals: bool) -> Outcome
     ensures exited { (code : ℤ) → exit_code status ≡ Some code → result ≡ Exited code }
     ensures killed { (signal : ℤ) → exit_code status ≡ None → exit_signal status ≡ Some signal
@@ -105,10 +100,9 @@ fn finish<S: OpenProcess>(
 }
 
 impl<'r, P: Processes + Files<File = File> + Wait> ShellRunner<'r, P> {
-    /// Returns a runner without failures, whose commands get this user's variables and folder, if a
-    /// user is given, and print to a file in this folder, if one is given, else to these streams. It
-    /// tells a signal that ended a command as [`Killed`](Outcome::Killed), or as
-    /// [`Ended`](Outcome::Ended).
+    /// Returns a runner without failures. With a home, commands get the user's variables and
+    /// folder. A command that a signal ended is [`Killed`](Outcome::Killed) if `tells_signals`,
+    /// else [`Ended`](Outcome::Ended).
     pub fn new(
         processes: &'r P,
         alloc: Global,
@@ -137,7 +131,7 @@ impl<'r, P: Processes + Files<File = File> + Wait> ShellRunner<'r, P> {
         }
     }
 
-    /// Opens the file of a run twice, if there is a folder for it. If it can't, tells why.
+    /// None without a folder, and where the file can't be opened, which is reported.
     fn open_output(&self, run: &[u8]) -> Option<(File, File)> {
         let folder = self.output.as_ref()?;
         match folder.open(self.processes, self.alloc, run) {
@@ -152,8 +146,8 @@ impl<'r, P: Processes + Files<File = File> + Wait> ShellRunner<'r, P> {
         }
     }
 
-    /// Starts a command, whose input is a pipe, or the null device if it has none. If it can't,
-    /// tells why.
+    /// Starts a command, or reports why it can't. Its input is a pipe, or the null device if it has
+    /// none.
     fn start(
         &self,
         run: &[u8],
@@ -190,7 +184,7 @@ impl<'r, P: Processes + Files<File = File> + Wait> ShellRunner<'r, P> {
         }
     }
 
-    /// Tells why the command of a run can't be started.
+    /// On the standard error, and as a remark.
     fn tell_start(&self, run: &[u8], why: &[u8]) {
         self.tell(why);
         if let Ok(text) = remark_text(self.alloc, run, why) {

@@ -1,4 +1,3 @@
-//! Stamps in a folder, one file for each (anacron(8)).
 ghost use Rattle.std.specs.Prelude.{◌≡◌, ◌≢◌, ◌≤◌, ℕ, [], IfOk, IsErr, MatchOption};
 ghost use Rattle.cs_anacrontab.specs.Stamp.{IsStampText};
 ghost use Rattle.cs_civil.specs.Calendar.{last_day};
@@ -35,7 +34,6 @@ pub struct StampsFolder<'r, 'f, R> {
 /// The bytes of the longest stamp, and one more.
 const ENOUGH: u64 = 10;
 
-/// The day in a stamp file's text, none if it is empty. An error if it is no stamp.
 fn day_in(text: &[u8]) -> io::Result<Option<Day>>
     ensures said { IfOk result (λ found.
         MatchOption found (text.now ≡ []) (IsStampText text.now)) }
@@ -52,7 +50,7 @@ fn day_in(text: &[u8]) -> io::Result<Option<Day>>
 }
 
 impl<'r, 'f, R: Files> StampsFolder<'r, 'f, R> {
-    /// Opens the folder at that path, without failures. [`NoFolder`] if the path names no folder.
+    /// Opens the folder at that path, without failures.
     pub fn open(
         rt: &'r R,
         alloc: Global,
@@ -79,8 +77,8 @@ impl<'r, 'f, R: Files> StampsFolder<'r, 'f, R> {
         self.failures = Failures::none();
     }
 
-    /// The day in an identifier's file, none if it is empty or absent. What is no file isn't opened:
-    /// a pipe would keep the daemon waiting.
+    /// The day in an identifier's file, none if it is empty or absent. Anything but a file isn't
+    /// opened: a pipe would keep the daemon waiting.
     fn look(&self, identifier: &[u8]) -> io::Result<Option<Day>> {
         let path = path_in(self.alloc, self.folder, file_name(identifier)?)?;
         match fs::metadata(self.rt, path.as_str()) {
@@ -93,7 +91,6 @@ impl<'r, 'f, R: Files> StampsFolder<'r, 'f, R> {
         day_in(text.as_slice())
     }
 
-    /// Writes a stamp, so that a crash leaves the old stamp or the new one.
     fn replace(&self, identifier: &[u8], day: Day) -> io::Result<()> {
         let name = file_name(identifier)?;
         let path = path_in(self.alloc, self.folder, name)?;

@@ -1,4 +1,4 @@
-//! What is told of a command that can't be started.
+//! What is written of a command that can't be started.
 ghost use Rattle.std.specs.Prelude.{◌≡◌, ◌++◌, IfOk, OnOk};
 ghost use Rattle.std.specs.Option.{option_copied};
 ghost use Rattle.cs_machine.specs.StartText.{error_line, place_text, remark_text, start_text};
@@ -7,7 +7,6 @@ use crate::shell::CommandFault;
 use cs_place::push_shown;
 use std::alloc::{AllocError, Global};
 
-/// What is told of a command for which no process can be set up.
 pub(crate) fn fault_text(fault: CommandFault) -> &'static [u8] {
     match fault {
         CommandFault::NotText => b"can't start a command: it or a setting of it isn't UTF-8",
@@ -15,7 +14,6 @@ pub(crate) fn fault_text(fault: CommandFault) -> &'static [u8] {
     }
 }
 
-/// Adds the folder, if the command has one of its own.
 pub(crate) fn push_place(text: &mut Vec<u8>, folder: Option<&[u8]>) -> Result<(), AllocError>
     ensures { OnOk result (text.new.items
         ≡ text.old.items ++ place_text (option_copied folder.entry)) }
@@ -28,8 +26,6 @@ pub(crate) fn push_place(text: &mut Vec<u8>, folder: Option<&[u8]>) -> Result<()
     text.extend_from_slice(b"'")
 }
 
-/// Adds what is told of a shell that the machine can't start, with the machine's error. The only
-/// error is out of memory.
 pub(crate) fn push_start(
     text: &mut Vec<u8>,
     shell: &[u8],
@@ -47,7 +43,6 @@ pub(crate) fn push_start(
     text.extend_from_slice(why)
 }
 
-/// Returns what the log is to tell of a run that can't be started. The only error is out of memory.
 pub(crate) fn remark_text(alloc: Global, run: &[u8], why: &[u8]) -> Result<Vec<u8>, AllocError>
     ensures { IfOk result (λ text. text.items ≡ remark_text run.now why.now) }
 {
@@ -57,8 +52,6 @@ pub(crate) fn remark_text(alloc: Global, run: &[u8], why: &[u8]) -> Result<Vec<u
     Ok(text)
 }
 
-/// Returns the line of standard error that tells this. A byte below 32, 127 and `\` is told as `\xNN`.
-/// The only error is out of memory.
 pub(crate) fn error_line(alloc: Global, text: &[u8]) -> Result<Vec<u8>, AllocError>
     ensures { IfOk result (λ line. line.items ≡ error_line text.now) }
 {

@@ -1,12 +1,12 @@
-//! The runs that a log has told to have started, and not yet to have ended.
+//! The runs that have started and not yet ended, as a log reports them.
 
 use cs_civil::Bytes;
 use std::alloc::Global;
 
-/// Notes what a line tells of a run in this second, among the runs that have started, each with the
-/// second in which that was told. It returns for how many seconds a run took whose end the line
-/// tells: 0 where the clock was put back. None for any other line, where the start wasn't noted, and
-/// without a time. A start without a time isn't noted, nor one for which memory runs out.
+/// Notes what a line reports of a run in this second, among the runs that have started, each with
+/// the second of its start. Returns how many seconds a run took, if the line reports its end: 0 if
+/// the clock was put back, none if the start wasn't noted or there is no time. A start without a
+/// time isn't noted, nor one for which memory runs out.
 pub(crate) fn note_run(
     alloc: Global,
     starts: &mut Vec<(Bytes, u64)>,
@@ -32,8 +32,7 @@ pub(crate) fn note_run(
     None
 }
 
-/// Whether the words tell the end of the run of this name, with its status or its signal, or that it
-/// couldn't be started.
+/// Whether the words report the end of the run of this name, or that it couldn't be started.
 pub(crate) fn is_last_of(words: &[u8], name: &[u8]) -> bool {
     if let Some(told) = words.strip_prefix(b"not started ") {
         return told == name;

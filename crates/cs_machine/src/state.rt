@@ -1,5 +1,3 @@
-//! What a daemon does, as its log tells it.
-
 use crate::counts::Counts;
 use crate::missed::missed_by;
 use crate::setup::JobNote;
@@ -7,37 +5,34 @@ use crate::starts::{is_last_of, note_run};
 use cs_civil::Bytes;
 use std::alloc::Global;
 
-/// What a daemon does, as the lines of its log tell it: which runs run, wait and are late, whether it
-/// starts nothing more, and how often something went wrong.
-///
-/// A run for whose name there is no memory isn't noted.
+/// What a daemon does, as the lines of its log report it. A run for whose name there is no memory
+/// isn't noted.
 #[derive(Drop)]
 pub(crate) struct State {
     alloc: Global,
-    /// When the daemon began, in seconds since 1970-01-01 00:00 UTC.
+    /// In seconds since 1970-01-01 00:00 UTC, as all moments here.
     pub(crate) since: Option<u64>,
-    /// The runs that have started and not yet ended, each with the second in which it started.
+    /// The runs that have started and not yet ended, each with the second of its start.
     pub(crate) starts: Vec<(Bytes, u64)>,
-    /// The names of the runs that have passed their declared time, and not yet ended.
+    /// The runs that have passed their declared time, and not yet ended.
     pub(crate) late: Vec<Bytes>,
-    /// The names of the runs that wait for a lock.
+    /// The runs that wait for a lock.
     pub(crate) waiting: Vec<Bytes>,
     pub(crate) counts: Counts,
-    /// How many runs of the crontab the outages missed; the last count of 64 bits stays.
+    /// How many runs of the crontab the outages missed, at most 2^64 - 1.
     pub(crate) missed: u64,
     /// When a stamp last couldn't be written.
     pub(crate) stamp_fault_at: Option<u64>,
     pub(crate) is_stopping: bool,
-    /// Whether a line came since the state was written last.
+    /// Whether a line came since the state was last written.
     has_changed: bool,
-    /// When it was written last.
     written_at: Option<u64>,
 }
 
-/// After how many seconds the state is written even if nothing has changed.
+/// After this many seconds the state is written even if nothing has changed.
 const SECONDS: u64 = 60;
 
-/// Whether the words tell that the run of this name waits no longer.
+/// Whether the run of this name waits no longer after this line.
 fn ends_wait(words: &[u8], name: &[u8]) -> bool {
     let told = words
         .strip_prefix(b"started ")
@@ -56,7 +51,6 @@ fn add(alloc: Global, names: &mut Vec<Bytes>, name: &[u8]) {
 }
 
 impl State {
-    /// That of a daemon that begins, with no line yet.
     pub(crate) fn new(alloc: Global, at: Option<u64>) -> State {
         State {
             alloc,
@@ -73,9 +67,8 @@ impl State {
         }
     }
 
-    /// Takes a line of a daemon with these jobs that is told in this second, and returns for how many
-    /// seconds a run took whose end it tells. Where memory runs out for the name of a run, only that
-    /// isn't noted.
+    /// Takes a line in this second, and returns how many seconds a run took, if the line reports
+    /// its end.
     pub(crate) fn take(&mut self, words: &[u8], at: Option<u64>, jobs: &[JobNote]) -> Option<u64> {
         self.has_changed = true;
         match words.strip_prefix(b"waiting ") {
@@ -101,7 +94,6 @@ impl State {
         self.waiting.clear();
     }
 
-    /// Whether the run of this name is late.
     pub(crate) fn is_late(&self, name: &[u8]) -> bool {
         for late in self.late.as_slice() {
             if late.as_slice() == name {
@@ -111,8 +103,8 @@ impl State {
         false
     }
 
-    /// Whether the state is to be written in this second: a line came since it was written last, or
-    /// that is a minute ago, or the clock was put back. From then on it counts as written.
+    /// Whether the state is to be written in this second: since it was last written, a line came, a
+    /// minute passed, or the clock was put back. From then on it counts as written.
     pub(crate) fn is_due(&mut self, at: u64) -> bool {
         let is_past = match self.written_at {
             Some(before) => at < before || at - before >= SECONDS,

@@ -7,7 +7,6 @@ use cs_civil::{date_text, push_number};
 use cs_place::push_shown;
 use std::alloc::{AllocError, Global};
 
-/// The value of a member.
 #[derive(Clone, Copy)]
 enum Told<'a> {
     Text(&'a [u8]),
@@ -17,7 +16,7 @@ enum Told<'a> {
     Flag(bool),
 }
 
-/// Adds a text: a byte below 32, 127 and `\` is in it as `\xNN`.
+/// Control characters and `\` are in it as `\xNN`.
 fn push_text(alloc: Global, text: &mut Vec<u8>, words: &[u8]) -> Result<(), AllocError> {
     let mut shown = Vec::new(alloc);
     push_shown(&mut shown, words)?;
@@ -44,7 +43,6 @@ fn push_value(alloc: Global, text: &mut Vec<u8>, value: Told<'_>) -> Result<(), 
     }
 }
 
-/// Adds members of an object, behind those that it has.
 fn push_members(
     alloc: Global,
     text: &mut Vec<u8>,
@@ -61,8 +59,7 @@ fn push_members(
     Ok(())
 }
 
-/// Adds the runs that run, in the order in which they started: since when and until when, whether
-/// each is late, and what it may meet then.
+/// Adds the runs that run, in the order in which they started.
 fn push_running<'x>(
     alloc: Global,
     text: &mut Vec<u8>,
@@ -93,7 +90,7 @@ fn push_running<'x>(
     Ok(())
 }
 
-/// Adds the name of the run that is due next, or `null` where there is none.
+/// `null` if nothing is due.
 fn push_next(
     alloc: Global,
     text: &mut Vec<u8>,
@@ -107,8 +104,6 @@ fn push_next(
     push_text(alloc, text, name.as_slice())
 }
 
-/// Adds the version, the moments, the table, the declarations, the certificate with its checksum, the
-/// anacrontab and the capacity.
 fn push_setup(
     alloc: Global,
     text: &mut Vec<u8>,
@@ -140,10 +135,9 @@ fn push_setup(
     push_members(alloc, text, &rest)
 }
 
-/// The text of a state at a moment, in seconds since 1970-01-01 00:00 UTC, with what is due next: one
-/// JSON object in one line, with its newline. The names of runs are in it as a log shows them; those
-/// of the tables that are run are UTF-8, since declarations name them. The only error is out of
-/// memory.
+/// The text of a state at a moment, in seconds since 1970-01-01 00:00 UTC: one JSON object in one
+/// line. The names of runs are in it as a log shows them; those of the tables that are run are
+/// UTF-8, since declarations name them.
 pub(crate) fn state_text(
     alloc: Global,
     setup: &Setup<'_>,

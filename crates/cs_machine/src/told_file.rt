@@ -1,4 +1,3 @@
-//! The files in which a daemon tells something.
 ghost use Rattle.std.specs.Prelude.{◌≡◌, ◌++◌, IfOk, codes, string_bytes};
 ghost use Rattle.cs_machine.specs.Files.{answer_file_of, file_of, new_file_of, state_file_of};
 
@@ -9,8 +8,8 @@ use std::io::ErrorKind;
 use std::rt::Files;
 use std::{fs, io};
 
-/// A file in a folder of stamps in which the daemon that uses the folder tells something. With its
-/// blank it is no identifier's stamp.
+/// A file in which the daemon that uses a folder of stamps writes its state or an answer. The blank
+/// in its name sets it apart from every stamp.
 #[derive(Drop)]
 pub struct ToldFile<'f> {
     folder: &'f str,
@@ -22,8 +21,7 @@ pub struct ToldFile<'f> {
 const MOST: u64 = 1_048_576;
 
 impl<'f> ToldFile<'f> {
-    /// Returns the file of a folder in which its daemon tells its state, whether it's there or not.
-    /// The only error is out of memory.
+    /// Returns the file of the state of a folder's daemon, whether it's there or not.
     pub fn state(alloc: Global, folder: &'f str) -> Result<ToldFile<'f>, AllocError>
         ensures path { IfOk result (λ file. string_bytes file.path ≡ state_file_of folder.now) }
         ensures new_path { IfOk result
@@ -33,8 +31,7 @@ impl<'f> ToldFile<'f> {
         ToldFile::of(alloc, folder, "cronsafe state")
     }
 
-    /// Returns the file of a folder in which its daemon answers a request, whether it's there or
-    /// not. The only error is out of memory.
+    /// Returns the file in which a folder's daemon answers a request, whether it's there or not.
     pub fn answer(alloc: Global, folder: &'f str) -> Result<ToldFile<'f>, AllocError>
         ensures path { IfOk result (λ file. string_bytes file.path ≡ answer_file_of folder.now) }
         ensures new_path { IfOk result
@@ -44,7 +41,6 @@ impl<'f> ToldFile<'f> {
         ToldFile::of(alloc, folder, "cronsafe answer")
     }
 
-    /// The file of that name in a folder.
     fn of(alloc: Global, folder: &'f str, name: &str) -> Result<ToldFile<'f>, AllocError>
         ensures path { IfOk result
             (λ file. string_bytes file.path ≡ file_of folder.now name.now) }
@@ -72,8 +68,8 @@ impl<'f> ToldFile<'f> {
         )
     }
 
-    /// Reads the file. An error too where no file is there but a folder, a pipe, a device or a
-    /// link, which aren't opened, and where it has more than a mebibyte.
+    /// Reads the file. An error too if it has more than a mebibyte. A folder, a pipe, a device or a
+    /// link isn't opened: that is an error as well.
     pub fn read<R: Files>(&self, rt: &R, alloc: Global) -> io::Result<Vec<u8>> {
         if !fs::symlink_metadata(rt, self.path.as_str())?.is_file() {
             return Err(io::Error::from(ErrorKind::InvalidInput));
@@ -85,7 +81,7 @@ impl<'f> ToldFile<'f> {
         Ok(text)
     }
 
-    /// Removes the file. That there is none is no error.
+    /// Removes the file, if it is there.
     pub fn remove<R: Files>(&self, rt: &R) -> io::Result<()> {
         remove_file(rt, self.path.as_str())
     }

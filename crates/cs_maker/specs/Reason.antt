@@ -1,4 +1,3 @@
--- The names of the reasons for which nothing is known of a plan.
 use Rattle.std.specs.Prelude.{ℕ, List, codes}
 use Rattle.cs_maker.specs.declared.reason.Reason.{Reason}
 use Rattle.cs_maker.specs.declared.reason.Reason.TheVariants.{TooManyClasses, LeafTooLong, TooDeep, NoReach, NoScript, NotChecked, NoMemory}

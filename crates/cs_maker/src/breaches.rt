@@ -1,4 +1,3 @@
-//! What the windows of a stretch break, and the civil minute of that.
 use crate::search::Search;
 use cs_civil::MINUTES_OF_DAY;
 use cs_overlap::Quiet;
@@ -16,7 +15,7 @@ pub(crate) struct Found {
 }
 
 /// What these windows of a stretch break. A rule is skipped if a quick test of them, or of longer
-/// ones, finds that it is kept. The only error is out of memory.
+/// ones, finds that it is kept.
 pub(crate) fn broken_by(
     alloc: Global,
     search: &Search<'_>,
@@ -58,13 +57,13 @@ pub(crate) fn last_day(calendar: &Calendar, profiles: &[u16]) -> u64 {
     calendar.first_day()
 }
 
-/// The civil minute with this number on a day.
 fn minute_on(day: u64, minute: u16) -> u64 {
     day.saturating_mul(u64::from(MINUTES_OF_DAY))
         .saturating_add(u64::from(minute))
 }
 
-/// The breach in these windows of the stretch up to this day, with those that hold its minute. The only error is out of memory.
+/// The breach in these windows of the stretch that ends on this day, with the windows that hold its
+/// minute.
 pub(crate) fn breach_on(
     alloc: Global,
     day: u64,

@@ -34,7 +34,6 @@ pub(crate) fn greatest_reaches(alloc: Global, facts: &Facts) -> Result<Vec<JobRe
     Ok(reaches)
 }
 
-/// The kinds of this many days up to this one, eldest first.
 fn kinds_until(last_day: u64, days: u8) -> Chain {
     let mut kinds = Chain::new();
     for days_back in (0..days.min(4)).rev() {
@@ -121,8 +120,8 @@ fn story_on(
     Ok(None)
 }
 
-/// A counterexample in which each run goes on exactly as long as it can, none if none is found. The
-/// reaches of the jobs that wait are no less than the exact ones. The only error is out of memory.
+/// A counterexample in which each run goes on exactly as long as it can, or none if none is found.
+/// The reaches of the jobs that wait are no less than the exact ones.
 pub(crate) fn exact_story(
     alloc: Global,
     search: &Search<'_>,

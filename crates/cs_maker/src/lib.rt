@@ -1,5 +1,6 @@
-//! The maker: finds a certificate for a plan, or a script that breaks it. It is not trusted; it
-//! promises only to return, and that a compact certificate is of version 3.
+//! Makes a certificate for a plan, or a script that breaks it.
+//!
+//! It isn't trusted: it promises only to return, and that a compact certificate is of version 3.
 #![tactic(auto)]
 
 mod breaches;

@@ -1,4 +1,3 @@
-//! The certificate that lists windows.
 ghost use Rattle.std.specs.Prelude.{◌≤◌, length};
 
 use crate::maker::Maker;
@@ -43,7 +42,6 @@ fn least_entries(facts: &Facts, classing: &Classing, in_use: &Stretches) -> u64 
     least
 }
 
-/// Each of these stretches, with the windows of its last day.
 fn with_windows(
     alloc: Global,
     occupied: &[Occupied<'_>],
@@ -60,9 +58,9 @@ fn with_windows(
 }
 
 impl Maker<'_> {
-    /// Returns the certificate of the least bounds that lists their windows, which is of version 1
-    /// or 2: the caller has it checked. None if there are no bounds, or no file can hold it. The
-    /// only error is out of memory.
+    /// Returns the certificate of the least bounds that lists their windows, of version 1 or 2, not
+    /// yet checked. None if there are no bounds, or no file can hold it. The only error is out of
+    /// memory.
     pub fn listed(&self, alloc: Global) -> Result<Option<Certificate>, AllocError> {
         let Some(bounds) = &self.bounds else {
             return Ok(None);

@@ -1,4 +1,3 @@
-//! The maker of one plan, and its compact certificate.
 ghost use Rattle.std.specs.Prelude.{◌≡◌, IfOk, IfSome};
 ghost use Rattle.cs_claims.specs.Certificate.{content};
 
@@ -8,17 +7,17 @@ use cs_plan::Plan;
 use cs_profile::Facts;
 use std::alloc::{AllocError, Global};
 
-/// Makes certificates and counterexamples for a plan, of what it reads off the plan once.
+/// Makes certificates and counterexamples for a plan, from what it reads off the plan once.
 #[derive(Drop)]
 pub struct Maker<'a> {
     pub(crate) plan: &'a Plan,
     pub(crate) facts: Facts,
-    /// The least bounds, none if nothing bounds how long jobs wait.
+    /// The least bounds. None if nothing bounds how long jobs wait.
     pub(crate) bounds: Option<Bounds>,
 }
 
 impl<'a> Maker<'a> {
-    /// Returns the maker for a plan. The only error is out of memory.
+    /// Returns the maker of a plan. The only error is out of memory.
     pub fn of(alloc: Global, plan: &'a Plan) -> Result<Maker<'a>, AllocError> {
         let facts = Facts::of(alloc, plan)?;
         let bounds = least_bounds(alloc, plan, &facts)?;

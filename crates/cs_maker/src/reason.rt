@@ -8,20 +8,20 @@ pub enum Reason {
     TooManyClasses,
     /// The certificate's text or a leaf is too long, and the maker made no compact one.
     LeafTooLong,
-    /// A tree of the certificate would be too deep. The maker doesn't return this.
+    /// A tree of the certificate would be too deep. Not returned.
     TooDeep,
     /// A job may have to wait too long for its lock.
     NoReach,
     /// Windows break a rule, but no history was found in which runs do.
     NoScript,
-    /// The maker's answer was not confirmed.
+    /// What the maker made wasn't confirmed.
     NotChecked,
     /// Memory ran out.
     NoMemory,
 }
 
 impl Reason {
-    /// Returns its name.
+    /// Returns its name, as printed.
     pub fn name(self) -> &'static str
         ensures { result.now ≡ reason_name self }
     {

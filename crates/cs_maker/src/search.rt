@@ -29,7 +29,6 @@ pub(crate) struct Budget {
 }
 
 impl Budget {
-    /// For a search that begins.
     fn of(plan: &Plan) -> Budget {
         let jobs = plan.jobs().len() as u64;
         Budget {
@@ -39,7 +38,7 @@ impl Budget {
     }
 }
 
-/// What a search for a counterexample reads: only a plan that is refused has one.
+/// What a search for a counterexample reads. Only a plan that is refused has one.
 #[derive(Drop)]
 pub(crate) struct Search<'a> {
     pub(crate) plan: &'a Plan,
@@ -48,7 +47,7 @@ pub(crate) struct Search<'a> {
     pub(crate) roles: Roles,
 }
 
-/// A counterexample with jobs that wait as long as they can, if that is unbounded; or this reason.
+/// A counterexample with jobs that wait as long as they can, if that is unbounded, or this reason.
 fn unbounded(
     alloc: Global,
     search: &Search<'_>,
@@ -60,7 +59,7 @@ fn unbounded(
 }
 
 /// A counterexample with jobs that wait as long as they can within these bounds. `NotChecked` if
-/// the windows of these bounds break no rule: then the checker had nothing to refuse.
+/// the windows of these bounds break no rule, so that the checker had nothing to refuse.
 fn bounded(
     alloc: Global,
     search: &Search<'_>,
@@ -74,7 +73,6 @@ fn bounded(
     Ok(exact_story(alloc, search, reaches, budget)?.ok_or(Reason::NoScript))
 }
 
-/// A counterexample for a breach of windows in which no job waits.
 fn plain(
     alloc: Global,
     search: &Search<'_>,

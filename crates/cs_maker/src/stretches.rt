@@ -1,4 +1,3 @@
-//! The stretches of successive days that the windows of a plan are looked at by.
 ghost use Rattle.std.specs.Prelude.{◌≤◌};
 
 use cs_civil::kind_number;
@@ -10,7 +9,6 @@ use std::collections::BTreeMap;
 /// Stretches by the numbers of their days (profiles or classes), eldest first, with kinds of them.
 pub(crate) type Stretches = BTreeMap<Vec<u16>, Chain>;
 
-/// The days of a stretch.
 pub(crate) fn days_of(occupied: &[Occupied<'_>]) -> u8
     ensures { (1 ≤ result) × (result ≤ 4) }
 {

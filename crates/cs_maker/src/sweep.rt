@@ -1,4 +1,3 @@
-//! The first breach in the windows of a plan, stretch by stretch.
 use crate::breaches::{breach_on, broken_by, last_day};
 use crate::search::Search;
 use crate::stretches::{days_of, stretches_by};
@@ -19,7 +18,7 @@ pub(crate) fn steps_held(windows: &[Window]) -> u64 {
 
 /// The first breach in the windows of a plan, where waiting jobs have these reaches, and others
 /// their declared times. If there is none and steps are left, no history breaks a declaration while
-/// runs end within the reaches. The only error is out of memory.
+/// runs end within the reaches.
 pub(crate) fn first_breach(
     alloc: Global,
     search: &Search<'_>,
@@ -36,7 +35,7 @@ pub(crate) fn first_breach(
         if *steps == 0 {
             return Ok(None);
         }
-        // the quick test shows for most that they break nothing
+        // the quick test shows that most break nothing
         let quiet = search.roles.quiet(alloc, windows)?;
         if let Some(found) = broken_by(alloc, search, quiet, windows)? {
             let day = last_day(&search.calendar, profiles.as_slice());

@@ -1,4 +1,3 @@
--- Where a rule is kept a finder finds nothing.
 use Rattle.std.proofs.Common.{ℕ, zero, suc, ◌+◌, ◌<◌, ◌≡◌, Bool, true, false, not, ◌&&◌, ◌||◌, List, find, Option, None, refl, sym, ap, ◌∙◌, arith, ◌==◌, le-leb, eqb-true}
 use Rattle.std.specs.Prelude.{option_map}
 use Rattle.std.specs.List.{AllByRecursion, range_with_len}
@@ -55,7 +54,6 @@ module _ (roles : List Role) where
       let other = role_at roles w.job in
       ap (λ (b : Bool). is_of roles g v && ((b && share_group one other) && ((one.is_cron || other.is_cron) && not (takes one.mode && takes other.mode)))) e ∙ and-false (is_of roles g v)))
 
-  -- those of a group that take its lock don't clash
   pub takers_none : (g : ℕ) (ws : List Window) → AllByRecursion (λ w. is_of roles g w ≡ true → takes (role_at roles w.job).mode ≡ true) ws → first_pair (clash_in roles g) ws ≡ None
   takers_none g ws all = (says_pair (clash_in roles g) ws).1 (pairs_of (λ w. is_of roles g w ≡ true → takes (role_at roles w.job).mode ≡ true) (λ v w. clash_in roles g v w ≡ false) ws (λ v w p q.
       false_from_ne_true (clash_in roles g v w) (λ e.
@@ -70,7 +68,6 @@ module _ (roles : List Role) where
       let both : (a b : Bool) → a ≡ true → b ≡ true → not (a && b) ≡ true → ⊥ = λ a b i j k. both_ways (not (a && b)) (ap (λ (c : Bool). not (c && b)) i ∙ ap (λ (c : Bool). not c) j) k in
       both (takes one.mode) (takes other.mode) (p x.0) (q too) z.1)) all)
 
-  -- what isn't a due skip job's isn't kept from its lock
   pub blocker_none : (m : ℕ) (v : Window) (ws : List Window) → (is_skip (role_at roles v.job).mode && ((v.day_back == 0) && (v.from == m))) ≡ false → find (role_blocks roles m v) ws ≡ None
   blocker_none m v ws e = (says_find (role_blocks roles m v) ws).1 (all_any (λ w. role_blocks roles m v w ≡ false) ws (λ w.
       ap (λ (b : Bool). b && (not (same_window v w) && (takes (role_at roles w.job).mode && share_group (role_at roles v.job) (role_at roles w.job)))) e))

@@ -1,4 +1,3 @@
--- What the windows that hold a minute have, as one window more is looked at.
 use Rattle.std.proofs.Common.{ℕ, ◌+◌, ◌<◌, ◌≡◌, max, min, Bool, true, false, cond, List, [], ◌∷◌, ◌++◌, take, length, get_or, slice_index, refl, ap, ◌∙◌, arith, replicate}
 use Rattle.std.proofs.lemmas.List.{get_or-replicate}
 use Rattle.std.proofs.lemmas.List.Elements.{filter_more}
@@ -35,7 +34,6 @@ module _ (f : Window → ℕ) (ws : List Window) (i : ℕ) (d : Window) (m : ℕ
   pub greatest_other : touches (get_or ws i d) m (m + 1) ≡ false → greatest f (holders m (take (i + 1) ws)) ≡ greatest f (holders m (take i ws))
   greatest_other e = omega (arith, ap (greatest f) (more false e), greatest_append f (holders m (take i ws)) (held false))
 
--- a table as one window more is counted in
 module _ (f : Window → ℕ) (ws : List Window) (i : ℕ) (d : Window) (lt : i < length ws) (old new : List ℕ) where
   sum_at : (m : ℕ) → slice_index old m ≡ min (total f (holders m (take i ws))) 65535 → (b : Bool) → touches (get_or ws i d) m (m + 1) ≡ b
       → (b ≡ true → slice_index new m ≡ min (slice_index old m + f (get_or ws i d)) 65535) → (b ≡ false → slice_index new m ≡ slice_index old m)
@@ -61,6 +59,5 @@ module _ (f : Window → ℕ) (ws : List Window) (i : ℕ) (d : Window) (lt : i 
       → IsGreatest f (take (i + 1) ws) new
   greatest_step was held other m day = greatest_now m (was m day) (touches (get_or ws i d) m (m + 1)) refl (held m day) (other m day)
 
--- a table of no windows
 pub none : (m : ℕ) → m < 1440 → slice_index (replicate 1440 0) m ≡ 0
 none m lt = get_or-replicate 1440 m 0 0 lt

@@ -1,4 +1,3 @@
--- The windows that are still looked at are those that the next ones may meet.
 use Rattle.std.proofs.Common.{ℕ, ◌+◌, ◌*◌, ◌<◌, ◌≡◌, true, List, [], ◌∷◌, ◌++◌, filter, take, drop, length, sym, ap, ◌∙◌, subst, arith}
 use Rattle.std.specs.Prelude.{get_or}
 use Rattle.std.proofs.lemmas.List.{take_more, drop_more, get_or-take, get_or_default, length-take}
@@ -32,7 +31,6 @@ starts_all ws i d lt rising = recursion_from_All (StartsBy (get_or ws i d)) (tak
     let other : get_or ws i e ≡ get_or ws i d = get_or_default ws i e d lt in
     subst (λ (v : Window). StartsBy (get_or ws i d) v) (sym same) (subst (λ (w : Window). StartsBy w (get_or ws k e)) other (rising k i e k_lt lt).start))
 
--- one turn of the loop over the windows
 module _ (ws : List Window) (i : ℕ) (d : Window) (lt : i < length ws) (rising : IsRising ws) (active : List Window) (kept : Keeps (take i ws) active) where
   pub kept_on : Keeps (take (i + 1) ws) (met (get_or ws i d) active ++ get_or ws i d ∷ [])
   kept_on = subst (λ (l : List Window). Keeps l (met (get_or ws i d) active ++ get_or ws i d ∷ [])) (sym (take_more ws i d lt)) (keeps_step (take i ws) active (get_or ws i d) kept (starts_all ws i d lt rising))

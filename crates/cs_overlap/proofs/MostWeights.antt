@@ -1,4 +1,4 @@
--- What windows weigh together is at most what each of them may weigh, added up.
+-- The load of windows is at most what each of them may weigh, added up.
 use Rattle.std.proofs.Common.{ℕ, zero, suc, ◌+◌, ◌<◌, ◌≤◌, ◌≡◌, Bool, true, false, not, ◌&&◌, List, [], ◌∷◌, Option, None, Some, if◌then◌else◌, refl, ap, ⊎_elim, arith}
 use Rattle.std.proofs.lemmas.Bool.{cases_lt, cases_eq, ne_eqb}
 use Rattle.cs_history.specs.Lists.{total, below}
@@ -8,7 +8,6 @@ use Rattle.cs_windows.specs.declared.window.Window.{Window}
 use Rattle.cs_overlap.specs.declared.role.Role.{Role}
 use Rattle.cs_overlap.specs.Roles.{role_at, alone_weight, shared_weight, group_weight, most_weight, load_by}
 
--- a sum with one term that is not 0
 lone_sum : (f : ℕ → ℕ) (k c : ℕ) → ((j : ℕ) → (j ≡ k → ⊥) → f j ≡ 0) → f k ≤ c → (m : ℕ) → (total f (below m) ≤ c) × (m ≤ k → total f (below m) ≡ 0)
 lone_sum f k c other at zero = (omega arith, λ _. refl)
 lone_sum f k c other at (suc m) =
@@ -19,7 +18,6 @@ lone_sum f k c other at (suc m) =
       λ l. let z : f m ≡ 0 = other m (λ q. omega (arith, l, q)) in omega (arith, e, z, ih.1 (omega (arith, l))),
     )
 
--- a weight counts in one group at most, and there once
 in_groups : (t : Bool) (o : Option ℕ) (k n : ℕ) → total (λ g. if t && is_group g o then k else 0) (below n) ≤ (if t then k else 0)
 in_groups false o k n = omega (arith, total_zero (λ (g : ℕ). 0) (below n) (all_any (λ g. 0 ≡ 0) (below n) (λ g. refl)))
 in_groups true None k n = omega (arith, total_zero (λ (g : ℕ). 0) (below n) (all_any (λ g. 0 ≡ 0) (below n) (λ g. refl)))

@@ -1,4 +1,3 @@
--- The roles that a plan gives its jobs.
 use Rattle.std.proofs.Common.{ℕ, ◌<◌, ◌≤◌, ◌≡◌, Bool, false, List, length, sym, ap, ◌∙◌, arith, ⊎_elim}
 use Rattle.std.specs.Prelude.{slice_index_or, nat_lt}
 use Rattle.std.proofs.lemmas.Bool.{le-ltb, cases_lt}
@@ -9,7 +8,6 @@ use Rattle.cs_plan.specs.Job.{DeclaredJob}
 use Rattle.cs_overlap.specs.declared.role.Role.{Role}
 use Rattle.cs_overlap.specs.Roles.{role_at, role_of, nobody, AreRoles}
 
--- past the last job a plan has nobody
 past : (d : Declared) (j : ℕ) → length d.jobs ≤ j → crons d ≤ length d.jobs → role_of (as_plan d) j ≡ nobody
 past d j le few =
     let job : slice_index_or d.jobs j no_job ≡ no_job = get_or_past d.jobs j no_job le in

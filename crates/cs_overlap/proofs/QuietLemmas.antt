@@ -33,7 +33,6 @@ within_step h e x xs k ih true false p q = absurd (both_ways (e x) q (k x p))
 within_step h e x xs k ih false true p q = ap (λ (c : Bool). cond c (x ∷ filter h (filter e xs)) (filter h (filter e xs))) p ∙ ih
 within_step h e x xs k ih false false p q = ih
 
--- what passes the first test passes the second
 pub filter_within : {X : Type 0} (h e : X → Bool) (xs : List X) → ((x : X) → h x ≡ true → e x ≡ true) → filter h (filter e xs) ≡ filter h xs
 filter_within h e [] k = refl
 filter_within h e (x ∷ xs) k = within_step h e x xs k (filter_within h e xs k) (h x) (e x) refl refl
@@ -62,7 +61,6 @@ total_runs f q ws = omega (arith, total-map f (run_in 2) (filter q ws), total-ma
 greatest_runs : (f : Run → ℕ) (q : Window → Bool) (ws : List Window) → greatest f (map (run_in 2) (filter q ws)) ≤ greatest f (map (run_in 2) ws)
 greatest_runs f q ws = omega (arith, greatest-map f (run_in 2) (filter q ws), greatest-map f (run_in 2) ws, greatest-filter q (λ w. f (run_in 2 w)) ws)
 
--- some of the windows weigh no more than all
 pub weight-filter : (p : Plan) (q : Window → Bool) (ws : List Window) → weight_of p (filter q ws) ≤ weight_of p ws
 weight-filter p q ws =
     let x = total_runs (λ w. if is_cron p w.job && not (takes_lock p w.job) then p.weight w.job else 0) q ws in
@@ -83,15 +81,15 @@ weight_none p =
 abbrev holds_at : ℕ → Window → Bool
 holds_at m w = touches w m (m + 1)
 
--- two that hold one minute meet
+-- two windows that hold one minute meet
 meet : (m : ℕ) (v w : Window) → holds_at m v ≡ true → holds_at m w ≡ true → ends_after w v ≡ true
 meet m v w h k =
     let x = ltb-true (max (m + 1440 * v.day_back) v.from) (min ((m + 1) + 1440 * v.day_back) (v.from + v.reach)) h in
     let y = ltb-true (max (m + 1440 * w.day_back) w.from) (min ((m + 1) + 1440 * w.day_back) (w.from + w.reach)) k in
     lt-ltb (w.from + 1440 * v.day_back) ((v.from + v.reach) + 1440 * w.day_back) (omega (arith, x, y))
 
--- what holds of windows with those before them that they meet holds of those that hold the minute,
--- where a further one of them keeps it
+-- a test of each window with those before it that it meets, taken to the windows that hold one
+-- minute
 module _ (m : ℕ) (P : List Window → Window → Type 0) (Q : List Window → Type 0) where
   abbrev Turn : Type 0
   Turn = (before : List Window) (w : Window) → holds_at m w ≡ true → Q (filter (holds_at m) before) → P (met w before) w → Q (filter (holds_at m) before ++ w ∷ [])
@@ -108,7 +106,6 @@ module _ (m : ℕ) (P : List Window → Window → Type 0) (Q : List Window → 
   all_from turn before [] q f = subst (λ (l : List Window). Q (filter (holds_at m) l)) (sym (append_nil before)) q
   all_from turn before (w ∷ ws) q f = subst (λ (l : List Window). Q (filter (holds_at m) l)) (append_one before w ws) (all_from turn (before ++ w ∷ []) ws (step turn before w q f.0 (holds_at m w) refl) f.1)
 
--- those before a window that hold a minute which it holds meet it
 same_met : (m : ℕ) (before : List Window) (w : Window) → holds_at m w ≡ true → filter (holds_at m) (met w before) ≡ filter (holds_at m) before
 same_met m before w e = filter_within (holds_at m) (ends_after w) before (λ v h. meet m v w h e)
 
@@ -142,7 +139,6 @@ within p n ws f m lt = omega (arith, load_jobs p (run_in n) (run_in 2) (holders 
 pub same_itself : (v w : Window) → v ≡ w → same_window v w ≡ true
 same_itself v w e = subst (λ (u : Window). same_window v u ≡ true) e (and_from (v.job == v.job) ((v.day_back == v.day_back) && (v.from == v.from)) (eq-eqb v.job v.job refl) (and_from (v.day_back == v.day_back) (v.from == v.from) (eq-eqb v.day_back v.day_back refl) (eq-eqb v.from v.from refl)))
 
--- what blocks a skip job at its minute bars it
 bars_it : (p : Plan) (m : ℕ) (v w : Window) → holds_at m w ≡ true → blocks p m v w ≡ true → (bars p v w ≡ true) × (same_window v w ≡ false)
 bars_it p m v w h e =
     let x = and_parts (is_skip (p.mode v.job) && ((v.day_back == 0) && (v.from == m))) (not (same_window v w) && (takes_lock p w.job && same_group p v.job w.job)) e in

@@ -1,4 +1,3 @@
--- What the roles of jobs hold is what the plan says.
 use Rattle.std.proofs.Common.{ℕ, ◌≡◌, Bool, true, false, not, ◌&&◌, ◌||◌, List, [], ◌∷◌, ◌++◌, Option, None, Some, refl, sym, ap, ◌∙◌, arith}
 use Rattle.cs_history.specs.Plan.{Plan, is_cron, takes_lock, takes, same_group, in_group_of, belongs, is_group, exclusive_group, is_skip}
 use Rattle.cs_history.proofs.Lists.{all_map, all_any, pairs_map}

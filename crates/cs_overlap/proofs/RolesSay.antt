@@ -1,4 +1,3 @@
--- What is found by the roles of a plan's jobs is what the plan's rules find.
 use Rattle.std.proofs.Common.{ℕ, ◌≡◌, List, sym, ap, ◌∙◌, subst}
 use Rattle.cs_history.specs.Plan.{Plan}
 use Rattle.cs_windows.specs.declared.window.Window.{Window}

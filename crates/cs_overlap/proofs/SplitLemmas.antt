@@ -1,4 +1,3 @@
--- The shares of jobs, and the windows that are kept, as one more is looked at.
 use Rattle.std.proofs.Common.{ℕ, ◌+◌, ◌<◌, ◌≡◌, ◌++◌, Bool, List, [], ◌∷◌, filter, map, take, length, get_or, cond, ap, ◌∙◌, sym}
 use Rattle.std.proofs.Math.ListN.{get_or-map}
 use Rattle.std.proofs.lemmas.List.Elements.{filter_more}

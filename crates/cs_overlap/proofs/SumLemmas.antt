@@ -34,7 +34,6 @@ pub filter_swap : {X : Type 0} (p q : X → Bool) (xs : List X) → filter p (fi
 filter_swap p q [] = refl
 filter_swap p q (x ∷ xs) = swap_step p q x xs (filter_swap p q xs) (p x) (q x) refl refl
 
--- what is 0 but for those that pass
 module _ {X : Type 0} (q : X → Bool) (f h : X → ℕ) (counts : (x : X) → f x ≡ (if q x then h x else 0)) where
   total_step : (x : X) (xs : List X) → total h (filter q xs) ≡ total f xs → (b : Bool) → f x ≡ (if b then h x else 0) → total h (cond b (x ∷ filter q xs) (filter q xs)) ≡ f x + total f xs
   total_step x xs ih true e = omega (arith, ih, e)
@@ -64,7 +63,6 @@ none_counts t (x ∷ xs) e = (here (t x) (total (λ x. if t x then 1 else 0) xs)
     here true n e = absurd (omega (arith, e))
     here false n e = refl
 
--- at most one counts
 lone : {X : Type 0} (t : X → Bool) (xs : List X) → total (λ x. if t x then 1 else 0) xs ≤ 1 → EachPair (λ x y. (t x && t y) ≡ false) xs
 lone t [] le = tt
 lone t (x ∷ xs) le = (first (t x) le, lone t xs (omega (arith, le)))
@@ -146,7 +144,6 @@ module _ (roles : List Role) where
   abbrev Due : ℕ → Window → Bool
   Due m v = is_skip (role_at roles v.job).mode && ((v.day_back == 0) && (v.from == m))
 
-  -- where at most one of them takes a lock, none keeps it from another
   pub free_at : (m : ℕ) (xs : List Window) → ((v : Window) → Has xs v → Due m v ≡ true → total (amount_in roles LockRun) xs ≤ 1) → AllByRecursion (λ v. AllByRecursion (λ w. role_blocks roles m v w ≡ false) xs) xs
   free_at m xs few = all_from_has (λ v. AllByRecursion (λ w. role_blocks roles m v w ≡ false) xs) xs (λ v hv. all_from_has (λ w. role_blocks roles m v w ≡ false) xs (λ w hw.
       false_from_ne_true (role_blocks roles m v w) (λ e.
@@ -178,7 +175,6 @@ module _ (roles : List Role) where
   or_true true = refl
   or_true false = refl
 
-  -- those of a group are among those that have one
   pub of_grouped : (g : ℕ) (ws : List Window) → filter (is_of roles g) (filter (has_group_or_catches roles) ws) ≡ filter (is_of roles g) ws
   of_grouped g ws = filter_within (is_of roles g) (has_group_or_catches roles) ws
       (λ w e. ap (λ (b : Bool). not (role_at roles w.job).is_cron || b) (has_of g (role_at roles w.job).group e) ∙ or_true (not (role_at roles w.job).is_cron))
@@ -229,7 +225,6 @@ module _ (roles : List Role) where
   pub apart_lockers : (end : ℕ) (ws : List Window) → AllByRecursion (λ w. takes (role_at roles w.job).mode ≡ true) ws → AreApartBy end roles ws
   apart_lockers end ws all m lt = pairs_of (λ w. takes (role_at roles w.job).mode ≡ true) Apart (holders m ws) apart_takers (all-filter (λ w. takes (role_at roles w.job).mode ≡ true) (λ w. touches w m (m + 1)) ws all)
 
-  -- no skip job, none that finds its lock held
   pub free_none : (end : ℕ) (ws : List Window) → AllByRecursion (λ w. is_skip (role_at roles w.job).mode ≡ false) ws → AreFreeBy end roles ws
   free_none end ws all m lt = all_map (λ v. is_skip (role_at roles v.job).mode ≡ false) (λ v. AllByRecursion (λ w. role_blocks roles m v w ≡ false) (holders m ws)) (holders m ws)
       (λ v e. all_any (λ w. role_blocks roles m v w ≡ false) (holders m ws) (λ w. ap (λ (b : Bool). (b && ((v.day_back == 0) && (v.from == m))) && (not (same_window v w) && (takes (role_at roles w.job).mode && share_group (role_at roles v.job) (role_at roles w.job)))) e))
@@ -246,7 +241,6 @@ module _ (roles : List Role) where
   swapped : (g m : ℕ) (ws : List Window) → holders m (filter (is_of roles g) ws) ≡ filter (is_of roles g) (holders m ws)
   swapped g m ws = filter_swap (λ w. touches w m (m + 1)) (is_of roles g) ws
 
-  -- all of catch-up are among those that have a group or are of catch-up
   catch_counts : (c b : Bool) (k : ℕ) → (if not c then k else 0) ≡ (if not c || b then (if not c then k else 0) else 0)
   catch_counts true true k = refl
   catch_counts true false k = refl

@@ -1,4 +1,3 @@
--- Tables of what begins and of what ends at each minute, as one window more is counted in.
 use Rattle.std.proofs.Common.{ℕ, zero, suc, ◌+◌, ◌<◌, ◌≤◌, ◌≡◌, Bool, true, false, ◌&&◌, List, take, length, get_or, slice_index, refl, ap, ◌∙◌, arith, ⊎_elim, nat_le, nat_lt, replicate}
 use Rattle.std.proofs.lemmas.Bool.Decides.{leb_tells}
 use Rattle.cs_history.specs.Lists.{below}
@@ -9,7 +8,6 @@ use Rattle.cs_overlap.specs.Sums.{IsRaisedAt, IsTally, HoldsFrom, up_to}
 use Rattle.cs_overlap.proofs.Weights.{total_below}
 use Rattle.cs_overlap.proofs.HolderLemmas.{total_held, total_other}
 
--- one place more
 pub up_to_more : (table : List ℕ) (k : ℕ) → up_to table (k + 1) ≡ up_to table k + slice_index table k
 up_to_more table k = total_below (slice_index table) k
 

@@ -1,4 +1,3 @@
--- Weights of windows by roles, and by the plan.
 use Rattle.std.proofs.Common.{ℕ, zero, suc, ◌+◌, ◌<◌, ◌≡◌, not, ◌&&◌, List, [], ◌∷◌, map, if◌then◌else◌, refl, sym, ap, ◌∙◌, arith}
 use Rattle.cs_history.specs.declared.run.Run.{Run}
 use Rattle.cs_history.specs.Lists.{total, greatest, below}
@@ -15,7 +14,6 @@ use Rattle.cs_overlap.specs.Quietness.{weight_of}
 pub total_below : (f : ℕ → ℕ) (n : ℕ) → total f (below (n + 1)) ≡ total f (below n) + f n
 total_below f n = let e : n + 1 ≡ suc n = omega arith in ap (λ (k : ℕ). total f (below k)) e ∙ total_push f (below n) n
 
--- what two functions make of the numbers below one
 pub total_same : (f h : ℕ → ℕ) (n : ℕ) → ((g : ℕ) → g < n → f g ≡ h g) → total f (below n) ≡ total h (below n)
 total_same f h zero e = refl
 total_same f h (suc n) e = omega (arith, total_push f (below n) n, total_push h (below n) n, total_same f h n (λ g lt. e g (omega (arith, lt))), e n (omega arith))
@@ -39,6 +37,5 @@ load_is p roles ws are =
     omega (arith, u, v)) in
     omega (arith, x, y, z)
 
--- what windows weigh depends on their jobs alone
 pub load_jobs_same : (p : Plan) (f g : Window → Run) (ws : List Window) → ((w : Window) → (f w).job ≡ (g w).job) → load p (map f ws) ≡ load p (map g ws)
 load_jobs_same p f g ws same = omega (arith, load_jobs p f g ws same, load_jobs p g f ws (λ w. sym (same w)))

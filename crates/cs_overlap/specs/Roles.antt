@@ -1,4 +1,3 @@
--- What a job is to the rules, and what windows weigh by it.
 use Rattle.std.specs.Prelude.{◌≡◌, ℕ, ◌+◌, max, Bool, false, not, ◌&&◌, ◌||◌, List, None, Some, if◌then◌else◌, get_or}
 use Rattle.cs_history.specs.declared.mode.Mode.TheVariants.{Plain}
 use Rattle.cs_history.specs.Lists.{total, greatest, below}
@@ -22,25 +21,27 @@ nobody = record { is_cron = false; mode = Plain; weight = 1; group = None; is_ex
 abbrev pub role_at : List Role → ℕ → Role
 role_at roles j = get_or roles j nobody
 
--- the roles of the jobs of a plan
 abbrev pub AreRoles : Plan → List Role → Type 0
 AreRoles p roles = (j : ℕ) → role_at roles j ≡ role_of p j
 
--- the load of a window: without a lock, in a group holding the lock alone or shared, as catch-up
+-- the weight of a window of a cron job that takes no lock, else 0
 abbrev pub free_weight : List Role → Window → ℕ
 free_weight roles w = if (role_at roles w.job).is_cron && not (takes (role_at roles w.job).mode)
     then (role_at roles w.job).weight else 0
 
+-- of one that takes the lock of group g for itself
 abbrev pub alone_weight : List Role → ℕ → Window → ℕ
 alone_weight roles g w = if (takes (role_at roles w.job).mode
     && is_group g (role_at roles w.job).group) && not (shares_in (role_at roles w.job).mode)
     then (role_at roles w.job).weight else 0
 
+-- of one that shares it
 abbrev pub shared_weight : List Role → ℕ → Window → ℕ
 shared_weight roles g w = if (takes (role_at roles w.job).mode
     && is_group g (role_at roles w.job).group) && shares_in (role_at roles w.job).mode
     then (role_at roles w.job).weight else 0
 
+-- of a catch-up window
 abbrev pub catch_weight : List Role → Window → ℕ
 catch_weight roles w = if not (role_at roles w.job).is_cron then (role_at roles w.job).weight else 0
 
@@ -50,32 +51,28 @@ most_weight roles w = if not (role_at roles w.job).is_cron && takes (role_at rol
     then (role_at roles w.job).weight + (role_at roles w.job).weight
     else (role_at roles w.job).weight
 
--- what the windows of a group weigh together
 abbrev pub group_weight : List Role → List Window → ℕ → ℕ
 group_weight roles ws g =
     max (greatest (alone_weight roles g) ws) (total (shared_weight roles g) ws)
 
--- what windows weigh together
 abbrev pub load_by : List Role → ℕ → List Window → ℕ
 load_by roles groups ws = total (free_weight roles) ws + total (group_weight roles ws)
     (below groups) + greatest (catch_weight roles) ws
 
--- whether both belong to one group
 abbrev pub share_group : Role → Role → Bool
 share_group one other = elim one.group [ None ↦ false | Some g ↦ is_group g other.group ]
 
--- whether their windows may not hold one minute
+-- whether their windows may not hold one minute: of one exclusive group, one is cron's, and not
+-- both take its lock
 abbrev pub roles_clash : Role → Role → Bool
 roles_clash one other = (one.is_exclusive && share_group one other)
     && ((one.is_cron || other.is_cron) && not (takes one.mode && takes other.mode))
 
--- the roles of the jobs of a plan, how many groups it has, and its capacity
 pub record PlanRoles : Type 0 where
   pub jobs : List Role
   pub groups : ℕ
   pub capacity : ℕ
 
--- these are the plan's
 pub record IsOf (p : Plan) (r : PlanRoles) : Type 0 where
   pub jobs : AreRoles p r.jobs
   pub groups : p.groups ≡ r.groups

@@ -1,4 +1,3 @@
--- What the windows of a job are in the pass over all windows of a stretch.
 use Rattle.std.specs.Prelude.{ℕ, not, ◌||◌, List, get_or, is_some}
 use Rattle.cs_overlap.specs.declared.role.Role.{Role}
 use Rattle.cs_overlap.specs.declared.split.Share.{Share}
@@ -6,10 +5,8 @@ use Rattle.cs_overlap.specs.declared.table.Amount.TheVariants.{FreeWeight}
 use Rattle.cs_overlap.specs.Roles.{nobody}
 use Rattle.cs_overlap.specs.Sums.{amount_of}
 
--- what each weighs without a lock, and whether it is kept
 abbrev pub share_in : Role → Share
 share_in r = record { weight = amount_of FreeWeight r; is_kept = not r.is_cron || is_some r.group }
 
--- by the number of the job
 abbrev pub share_at : List Share → ℕ → Share
 share_at shares j = get_or shares j (share_in nobody)

@@ -1,5 +1,5 @@
-//! The finders: the first fault in the windows of one stretch. Sums say up to which minute there is
-//! none; from there on each minute is looked at as the rules say.
+//! Finds the first fault in the windows of one stretch. Sums say up to which minute there is none;
+//! from there on each minute is looked at as the rules say.
 ghost use Rattle.std.specs.Prelude.{◌≡◌, ◌≤◌, ◌<◌, ◌&&◌, ◌==◌, IfOk, Some, false, find, not, true};
 ghost use Rattle.std.specs.List.{AllByRecursion};
 ghost use Rattle.cs_history.specs.Plan.{is_skip, takes};
@@ -18,7 +18,6 @@ use cs_civil::MINUTES_OF_DAY;
 use cs_windows::{Entry, MinuteTree, Window, lists, touches};
 use std::alloc::{AllocError, Global};
 
-/// The windows that hold a minute of the day looked at, in order.
 fn holders(alloc: Global, windows: &[Window], minute: u16) -> Result<Vec<Window>, AllocError>
     requires { minute < 1440 }
     ensures { IfOk result (λ held. held.items ≡ holders minute windows.now) }
@@ -32,14 +31,12 @@ fn holders(alloc: Global, windows: &[Window], minute: u16) -> Result<Vec<Window>
     Ok(held)
 }
 
-/// Whether the first window is of this group and may not overlap the other.
 fn clash_in(roles: &[Role], group: usize, one: &Window, other: &Window) -> bool
     ensures { result ≡ clash_in roles.now group one.now other.now }
 {
     is_of(roles, group, one) && clash(role_of(roles, one), role_of(roles, other))
 }
 
-/// The first of these windows that this one may not overlap.
 fn rival_of(roles: &[Role], group: usize, one: &Window, others: &[Window]) -> Option<Window>
     ensures { result ≡ find (clash_in roles.now group one.now) others.now }
 {
@@ -57,7 +54,6 @@ fn rival_of(roles: &[Role], group: usize, one: &Window, others: &[Window]) -> Op
     None
 }
 
-/// The first two windows of a group that may not overlap.
 fn first_clash(roles: &[Role], group: usize, held: &[Window]) -> Option<(Window, Window)>
     ensures { result ≡ first_pair (clash_in roles.now group) held.now }
 {
@@ -69,7 +65,6 @@ fn first_clash(roles: &[Role], group: usize, held: &[Window]) -> Option<(Window,
     None
 }
 
-/// Whether one of these windows is of this group and takes no lock.
 fn any_plain_of(roles: &[Role], group: usize, windows: &[Window]) -> bool
     ensures { result ≡ false → AllByRecursion (λ w. is_of roles.now group w ≡ true
         → takes (role_at roles.now w.job).mode ≡ true) windows.now }
@@ -82,7 +77,6 @@ fn any_plain_of(roles: &[Role], group: usize, windows: &[Window]) -> bool
     false
 }
 
-/// The first two windows of this group that may not both hold this minute.
 fn collision_of(
     roles: &[Role],
     group: usize,
@@ -98,7 +92,6 @@ fn collision_of(
     Some((minute, one, other))
 }
 
-/// The first two windows that may not both hold this minute, by group.
 fn collision_at(
     alloc: Global,
     roles: &[Role],
@@ -118,7 +111,6 @@ fn collision_at(
     Ok(None)
 }
 
-/// The first minute of the day, and the first two windows there that may not both hold it.
 pub(crate) fn collision(
     alloc: Global,
     roles: &[Role],
@@ -138,7 +130,6 @@ pub(crate) fn collision(
     Ok(None)
 }
 
-/// The load at this minute, if it exceeds the capacity.
 fn overload_at(
     alloc: Global,
     roles: &[Role],
@@ -160,7 +151,6 @@ fn overload_at(
     Ok(Some((minute, weight)))
 }
 
-/// The first minute of the day at which the load exceeds the capacity, and the load.
 pub(crate) fn overload(
     alloc: Global,
     roles: &[Role],
@@ -181,7 +171,6 @@ pub(crate) fn overload(
     Ok(None)
 }
 
-/// Whether a window is a skip job's that is due at this minute of the day looked at.
 fn is_due_skip(roles: &[Role], minute: u16, window: &Window) -> bool
     ensures { result ≡ (is_skip (role_at roles.now window.now.job).mode
         && ((window.now.day_back == 0) && (window.now.from == minute))) }
@@ -189,7 +178,6 @@ fn is_due_skip(roles: &[Role], minute: u16, window: &Window) -> bool
     role_of(roles, window).mode.is_skip() && (window.day_back == 0 && window.from == minute)
 }
 
-/// Whether a window keeps the lock from a skip job whose window begins at this minute.
 fn blocks(roles: &[Role], minute: u16, skip: &Window, other: &Window) -> bool
     ensures { result ≡ role_blocks roles.now minute skip.now other.now }
 {
@@ -201,7 +189,6 @@ fn blocks(roles: &[Role], minute: u16, skip: &Window, other: &Window) -> bool
         && (!is_same && holder.mode.takes_lock() && share_group(role_of(roles, skip), holder))
 }
 
-/// The first of these windows that keeps the lock from a skip job.
 fn blocker_of(roles: &[Role], minute: u16, skip: &Window, held: &[Window]) -> Option<Window>
     ensures { result ≡ find (role_blocks roles.now minute skip.now) held.now }
 {
@@ -213,7 +200,6 @@ fn blocker_of(roles: &[Role], minute: u16, skip: &Window, held: &[Window]) -> Op
     None
 }
 
-/// The first window that keeps the lock from this skip job.
 fn blocked_by(
     roles: &[Role],
     minute: u16,
@@ -229,7 +215,6 @@ fn blocked_by(
     Some((minute, *skip, other))
 }
 
-/// The first of these windows that is of a skip job from which a lock is kept at this minute.
 fn first_blocked(roles: &[Role], minute: u16, held: &[Window]) -> Option<(u16, Window, Window)>
     ensures { result ≡ first_of (blocked_of roles.now minute held.now) held.now }
 {
@@ -241,7 +226,6 @@ fn first_blocked(roles: &[Role], minute: u16, held: &[Window]) -> Option<(u16, W
     None
 }
 
-/// The first skip job from which a lock is kept at this minute, and the window that keeps it.
 fn blocked_at(
     alloc: Global,
     roles: &[Role],
@@ -255,7 +239,6 @@ fn blocked_at(
     Ok(first_blocked(roles, minute, held.as_slice()))
 }
 
-/// The first minute of the day at which a skip job finds its lock held, its window, and the other.
 pub(crate) fn blocked(
     alloc: Global,
     roles: &[Role],
@@ -275,7 +258,6 @@ pub(crate) fn blocked(
     Ok(None)
 }
 
-/// The first of these windows that isn't listed.
 fn unlisted(entries: &[Entry], held: &[Window]) -> Option<Window>
     ensures { result ≡ find (λ w. not (lists entries.now w)) held.now }
 {
@@ -287,7 +269,6 @@ fn unlisted(entries: &[Entry], held: &[Window]) -> Option<Window>
     None
 }
 
-/// A window that holds this minute and isn't in its leaf.
 fn missing_at(
     alloc: Global,
     tree: &MinuteTree,
@@ -305,7 +286,8 @@ fn missing_at(
     }
 }
 
-/// Returns the first minute of the day, and the first window that holds it, that its leaf lacks.
+/// Returns the first minute of the day, and the first window that holds it, that the minute's leaf
+/// doesn't list.
 pub fn missing(
     alloc: Global,
     tree: &MinuteTree,

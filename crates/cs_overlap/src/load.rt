@@ -1,4 +1,3 @@
-//! The load of windows: what they weigh together.
 ghost use Rattle.std.specs.Prelude.{◌≡◌, ℕ, ◌+◌, ◌*◌, ◌^◌, ◌<◌, ◌≤◌, ◌↔◌, IsTrue, max, length, slice_index};
 ghost use Rattle.cs_history.specs.Lists.{total, greatest, below};
 ghost use Rattle.cs_overlap.specs.Roles.{free_weight, alone_weight, shared_weight, catch_weight, most_weight, load_by};
@@ -6,7 +5,6 @@ ghost use Rattle.cs_overlap.specs.Roles.{free_weight, alone_weight, shared_weigh
 use crate::role::{Role, role_of};
 use cs_windows::Window;
 
-/// The number of groups that a plan may have.
 const GROUPS: usize = 64;
 
 fn free_weight(roles: &[Role], window: &Window) -> u8
@@ -27,7 +25,7 @@ fn catch_weight(roles: &[Role], window: &Window) -> u8
     if role.is_cron { 0 } else { role.weight }
 }
 
-/// The most that a window weighs: its weight, twice that for a catch-up window that takes a lock.
+/// A catch-up window that takes a lock may count in its group and as catch-up.
 fn most_weight(roles: &[Role], window: &Window) -> u16
     ensures value { result ≡ most_weight roles.now window.now }
     ensures small { result ≤ 510 }
@@ -41,7 +39,6 @@ fn most_weight(roles: &[Role], window: &Window) -> u16
     }
 }
 
-/// The sum of the weights of the windows without a lock.
 fn free_load(roles: &[Role], windows: &[Window]) -> u128
     ensures sum { result ≡ total (free_weight roles.now) windows.now }
     ensures small { result < 2 ^ 100 }
@@ -53,7 +50,6 @@ fn free_load(roles: &[Role], windows: &[Window]) -> u128
     sum
 }
 
-/// The greatest weight of a catch-up window.
 fn catch_load(roles: &[Role], windows: &[Window]) -> u8
     ensures { result ≡ greatest (catch_weight roles.now) windows.now }
 {
@@ -105,7 +101,6 @@ fn shared_loads(roles: &[Role], windows: &[Window]) -> [u128; GROUPS]
     table
 }
 
-/// The sum of the weights of the first groups.
 fn group_load(alone: &[u8; GROUPS], shared: &[u128; GROUPS], groups: usize) -> u128
     requires few { groups ≤ 64 }
     requires long { (length alone.now ≡ 64) × (length shared.now ≡ 64) }
@@ -121,8 +116,8 @@ fn group_load(alone: &[u8; GROUPS], shared: &[u128; GROUPS], groups: usize) -> u
     sum
 }
 
-/// The load of the windows: each without a lock, of each group the greater of the heaviest that
-/// holds its lock alone and the sum of those that share it, and the heaviest of catch-up.
+/// The load of the windows: each without a lock; of each group the heaviest that holds its lock
+/// alone or the sum of those that share it, whichever is more; and the heaviest of catch-up.
 pub(crate) fn load(roles: &[Role], groups: usize, windows: &[Window]) -> u128
     requires few { groups ≤ 64 }
     ensures { result ≡ load_by roles.now groups windows.now }
@@ -134,7 +129,6 @@ pub(crate) fn load(roles: &[Role], groups: usize, windows: &[Window]) -> u128
         + u128::from(catch_load(roles, windows))
 }
 
-/// The sum of the most that each window weighs.
 fn most_load(roles: &[Role], windows: &[Window]) -> u128
     ensures { result ≡ total (most_weight roles.now) windows.now }
 {
@@ -145,7 +139,7 @@ fn most_load(roles: &[Role], windows: &[Window]) -> u128
     sum
 }
 
-/// Whether the load is at most the capacity. It is worked out only if it may be more.
+/// The load is worked out only if the most that the windows may weigh exceeds the capacity.
 #[tactic(auto, using(crate::proofs::MostWeights::load_most))]
 pub(crate) fn fits(roles: &[Role], groups: usize, capacity: u8, windows: &[Window]) -> bool
     requires few { groups ≤ 64 }

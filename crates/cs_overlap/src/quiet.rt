@@ -13,7 +13,7 @@ use std::alloc::{AllocError, Global};
 /// finder decides whether there is a fault.
 #[derive(Clone, Copy, PartialEq, Eq)]
 pub struct Quiet {
-    /// No two runs of an exclusive group may meet.
+    /// No two windows overlap that may not.
     pub is_apart: bool,
     /// No minute weighs more than the capacity.
     pub is_within: bool,
@@ -30,7 +30,7 @@ impl Quiet {
     }
 }
 
-/// The first minute of the day looked at, from the start of the day on which the window begins.
+/// The start of the last day, in minutes from the start of the day on which the window begins.
 pub(crate) fn day_start(window: &Window) -> u32
     ensures value { result ≡ 1440 * window.now.day_back }
     ensures small { result ≤ 367200 }
@@ -38,7 +38,6 @@ pub(crate) fn day_start(window: &Window) -> u32
     u32::from(MINUTES_OF_DAY) * u32::from(window.day_back)
 }
 
-/// Whether one window still holds minutes when another begins.
 fn ends_after(window: &Window, earlier: &Window) -> bool
     ensures { result ≡ ends_after window.now earlier.now }
 {
@@ -46,7 +45,6 @@ fn ends_after(window: &Window, earlier: &Window) -> bool
         < u32::from(earlier.from) + u32::from(earlier.reach) + day_start(window)
 }
 
-/// Whether one window holds the minute of the day looked at in which another begins there.
 fn is_open_at(window: &Window, other: &Window) -> bool
     ensures { result ≡ is_open_at window.now other.now }
 {
@@ -56,7 +54,6 @@ fn is_open_at(window: &Window, other: &Window) -> bool
         && minute < u32::from(other.from) + u32::from(other.reach)
 }
 
-/// Whether the first window is a skip job's, and the second holds its group's lock as it begins.
 fn bars(roles: &[Role], window: &Window, other: &Window) -> bool
     ensures { result ≡ role_bars roles.now window.now other.now }
 {
@@ -66,7 +63,6 @@ fn bars(roles: &[Role], window: &Window, other: &Window) -> bool
         && (holder.mode.takes_lock() && share_group(skip, holder))
 }
 
-/// Whether a window may overlap each of these by the rule of groups.
 fn is_apart_from(roles: &[Role], active: &[Window], window: &Window) -> bool
     ensures { IsTrue result → PassesWith (apart_by roles.now) active.now window.now }
 {
@@ -78,7 +74,6 @@ fn is_apart_from(roles: &[Role], active: &[Window], window: &Window) -> bool
     true
 }
 
-/// Whether none of these bars a skip job's window, and it bars none that is a skip job's.
 fn is_free_of(roles: &[Role], active: &[Window], window: &Window) -> bool
     ensures { IsTrue result → PassesWith (free_by roles.now) active.now window.now }
 {
@@ -90,7 +85,6 @@ fn is_free_of(roles: &[Role], active: &[Window], window: &Window) -> bool
     true
 }
 
-/// Drops those that the window doesn't meet.
 fn leave_met(active: &mut Vec<Window>, window: &Window)
     ensures { active.new.items ≡ met window.now active.old.items }
 {
@@ -101,8 +95,8 @@ fn leave_met(active: &mut Vec<Window>, window: &Window)
     );
 }
 
-/// The rules by which each window is harmless with the earlier ones that it meets. If they are in
-/// order of start, no minute of the day then has a fault by those rules.
+/// The rules by which each window is harmless with the earlier ones that it meets. If windows are
+/// in order of start, no minute of the last day then has a fault by those rules.
 pub(crate) fn quiet_by_rule(
     alloc: Global,
     roles: &[Role],

@@ -4,19 +4,15 @@ ghost use Rattle.cs_overlap.specs.Roles.{role_at, share_group, roles_clash};
 use cs_history::Mode;
 use cs_windows::Window;
 
-/// What the rules need of a job.
 #[derive(Clone, Copy)]
 pub(crate) struct Role {
-    /// Whether it is a job of the crontab.
     pub(crate) is_cron: bool,
     pub(crate) mode: Mode,
     pub(crate) weight: u8,
     pub(crate) group: Option<u8>,
-    /// Whether its group is exclusive.
     pub(crate) is_exclusive: bool,
 }
 
-/// Whether both belong to one group.
 pub(crate) fn share_group(one: Role, other: Role) -> bool
     ensures { result ≡ share_group one other }
 {
@@ -27,8 +23,8 @@ pub(crate) fn share_group(one: Role, other: Role) -> bool
     }
 }
 
-/// Whether their windows may not overlap: they are of one exclusive group, one of them is of the
-/// crontab, and not both take the lock.
+/// Whether their windows may not overlap: they are of one exclusive group, one of them is a cron
+/// job, and not both take the lock.
 pub(crate) fn clash(one: Role, other: Role) -> bool
     ensures { result ≡ roles_clash one other }
 {

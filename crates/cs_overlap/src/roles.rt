@@ -15,11 +15,11 @@ use cs_windows::Window;
 use std::alloc::{AllocError, Global};
 use std::marker::Model;
 
-/// From this many windows on a stretch is tested by sums, whose time is the same for each window;
-/// the other test compares each with all that are open then.
+/// From this many windows on a stretch is tested by sums, which take the same time for each window.
+/// The other test compares each window with all that are open then.
 const MANY_WINDOWS: usize = 512;
 
-/// What the rules about windows need of the jobs of a plan: read off once for all stretches.
+/// What the rules about windows need of the jobs of a plan, read once for all stretches.
 #[derive(Drop)]
 pub struct Roles {
     jobs: Vec<Role>,
@@ -52,7 +52,6 @@ fn role_of(plan: &Plan, number: usize, job: Job) -> Role
     }
 }
 
-/// The roles of all jobs, by number.
 fn jobs_of(alloc: Global, plan: &Plan) -> Result<Vec<Role>, AllocError>
     ensures roles { IfOk result (λ jobs. AreRoles (as_plan plan.now) jobs.items) }
     ensures grouped { IfOk result (λ jobs. AreGrouped jobs.items (length plan.now.groups)) }
@@ -96,10 +95,10 @@ impl Roles {
         self.capacity
     }
 
-    /// Tests the windows of a stretch, in order of start, quickly by each of three rules. A rule
-    /// that is true has no fault in a minute of the last day: no collision, no load above the
-    /// capacity, no due skip job that finds its lock held. For a rule that is false its finder
-    /// decides. The only error is out of memory.
+    /// Tests the windows of a stretch, in order of start, quickly by each of three rules. If a rule
+    /// is true, no minute of the last day has a fault by it: no collision, no load above the
+    /// capacity, no due skip job that finds its lock held. If it is false, its finder decides. The
+    /// only error is out of memory.
     pub fn quiet(&self, alloc: Global, windows: &[Window]) -> Result<Quiet, AllocError>
         requires rising { IsRising windows.now }
         ensures apart { IfOk result (λ quiet. IsTrue quiet.is_apart
@@ -116,10 +115,10 @@ impl Roles {
         }
     }
 
-    /// Returns the first minute of the last day of a stretch, and the first two windows of one
-    /// exclusive group that may not both hold it: one of them is of the crontab, and not both take
-    /// the group's lock. By minute, then group, then the order of the windows. The only error is
-    /// out of memory.
+    /// Returns the first minute of the last day of a stretch at which two windows of one exclusive
+    /// group may not meet, since one of them is a cron job's and not both take the group's lock;
+    /// and the first two such windows, by group, then in the order of the windows. The only error
+    /// is out of memory.
     pub fn collision(
         &self,
         alloc: Global,
@@ -145,7 +144,8 @@ impl Roles {
     }
 
     /// Returns the first due minute of a skip job on the last day of a stretch at which another
-    /// window holds its group's lock, its window and the other. The only error is out of memory.
+    /// window holds its group's lock, the job's window and the other. The only error is out of
+    /// memory.
     pub fn blocked(
         &self,
         alloc: Global,

@@ -11,10 +11,9 @@ use crate::table::{
 use cs_windows::Window;
 use std::alloc::{AllocError, Global};
 
-/// A job's windows in that pass.
 #[derive(Clone, Copy)]
 struct Share {
-    /// The weight of each for a cron job that takes no lock; else 0.
+    /// The weight of each, if the job is a cron job that takes no lock, else 0.
     weight: u8,
     /// Whether each is kept, since the job has a group or is catch-up.
     is_kept: bool,
@@ -29,7 +28,6 @@ fn share_in(role: Role) -> Share
     }
 }
 
-/// The share of each job, by number.
 fn shares(alloc: Global, roles: &[Role]) -> Result<Vec<Share>, AllocError>
     ensures { IfOk result (λ found. found.items ≡ map share_in roles.now) }
 {
@@ -52,7 +50,6 @@ fn share_at(shares: &[Share], window: &Window) -> Share
     }
 }
 
-/// Whether the job of a window is catch-up or has a group.
 fn has_group_or_catches(roles: &[Role], window: &Window) -> bool
     ensures { result ≡ has_group_or_catches roles.now window.now }
 {
@@ -60,7 +57,6 @@ fn has_group_or_catches(roles: &[Role], window: &Window) -> bool
     !role.is_cron || role.group.is_some()
 }
 
-/// The windows of the jobs that have a group and those of catch-up, in order.
 fn grouped_or_catch_up(
     alloc: Global,
     roles: &[Role],
@@ -78,7 +74,6 @@ fn grouped_or_catch_up(
     Ok(found)
 }
 
-/// Adds a window to the others if it is kept.
 fn keep(others: &mut Vec<Window>, is_kept: bool, window: &Window) -> Result<(), AllocError>
     ensures { IfOk result (λ _.
         others.new.items ≡ others.old.items ++ (if is_kept then window.now ∷ [] else [])) }
@@ -90,8 +85,8 @@ fn keep(others: &mut Vec<Window>, is_kept: bool, window: &Window) -> Result<(), 
 }
 
 /// The weight at each minute of the cron jobs that take no lock; and in order the windows of
-/// catch-up and of jobs with a group, mostly a few of all. Each weight is added where the window
-/// begins, and taken off where it ends, so that the cost doesn't grow with the minutes that windows
+/// catch-up and of jobs with a group, usually a few of all. Each weight is added where the window
+/// begins and taken off where it ends, so that the cost doesn't grow with the minutes that windows
 /// hold.
 pub(crate) fn free_and_others(
     alloc: Global,

@@ -1,5 +1,4 @@
-//! How long the windows of one stretch keep each rule, by sums over the minutes of the day looked
-//! at.
+//! How long the windows of one stretch keep each rule, by sums over the minutes of the last day.
 ghost use Rattle.std.specs.Prelude.{◌≡◌, ◌≤◌, IfOk, IsTrue, false, filter, slice_index, true};
 ghost use Rattle.std.specs.List.{AllByRecursion};
 ghost use Rattle.cs_history.specs.Plan.{takes, is_skip};
@@ -15,7 +14,6 @@ use cs_civil::MINUTES_OF_DAY;
 use cs_windows::Window;
 use std::alloc::{AllocError, Global};
 
-/// The windows of the jobs of a group, in order.
 fn windows_of(
     alloc: Global,
     roles: &[Role],
@@ -33,7 +31,6 @@ fn windows_of(
     Ok(found)
 }
 
-/// Whether the job of a window is of this group.
 pub(crate) fn is_of(roles: &[Role], group: usize, window: &Window) -> bool
     ensures { result ≡ is_of roles.now group window.now }
 {
@@ -55,7 +52,6 @@ fn any_exclusive(roles: &[Role], windows: &[Window]) -> bool
     false
 }
 
-/// Whether one of the windows is of a job that takes no lock.
 fn any_plain(roles: &[Role], windows: &[Window]) -> bool
     ensures { result ≡ false
         → AllByRecursion (λ w. takes (role_at roles.now w.job).mode ≡ true) windows.now }
@@ -68,8 +64,6 @@ fn any_plain(roles: &[Role], windows: &[Window]) -> bool
     false
 }
 
-/// The first minute with several runs, one without the lock, and one of a cron job; or the end of
-/// the day.
 fn first_clash(runs: &[u16], plain: &[u16], cron: &[u16]) -> u16
     requires { IsDay runs.now × IsDay plain.now × IsDay cron.now }
     ensures range { result ≤ 1440 }
@@ -83,7 +77,7 @@ fn first_clash(runs: &[u16], plain: &[u16], cron: &[u16]) -> u16
     MINUTES_OF_DAY
 }
 
-/// A minute before which no two windows of a group may be rivals.
+/// A minute before which no two windows of a group clash.
 fn apart_until(roles: &[Role], windows: &[Window]) -> u16
     ensures range { result ≤ 1440 }
     ensures apart { AreApartBy result roles.now windows.now }
@@ -100,8 +94,8 @@ fn apart_until(roles: &[Role], windows: &[Window]) -> u16
     first_clash(&runs, &plain, &cron)
 }
 
-/// The minute at which this window begins, if it is of a skip job that is due on the day looked at
-/// while several runs take a lock; or the end of the day.
+/// The minute at which this window begins, if it is a skip job's that is due on the last day while
+/// several runs take a lock; else the end of the day.
 fn lone_until(roles: &[Role], takers: &[u16], window: &Window) -> u16
     requires { IsDay takers.now }
     ensures range { result ≤ 1440 }
@@ -122,7 +116,6 @@ fn lone_until(roles: &[Role], takers: &[u16], window: &Window) -> u16
     }
 }
 
-/// The first of those minutes.
 fn all_lone_until(roles: &[Role], takers: &[u16], windows: &[Window]) -> u16
     requires { IsDay takers.now }
     ensures range { result ≤ 1440 }
@@ -159,7 +152,7 @@ fn free_until(roles: &[Role], windows: &[Window]) -> u16
     all_lone_until(roles, &takers, windows)
 }
 
-/// Adds the greater of two tables at each minute, up to the greatest number of the type.
+/// Numbers that don't fit in 16 bits stay at the greatest.
 fn add_greater(load: &mut [u16], one: &[u16], other: &[u16])
     requires { IsDay load.old × IsDay one.now × IsDay other.now }
     ensures each { IsGreaterAdded one.now other.now load.old load.new }
@@ -170,7 +163,6 @@ fn add_greater(load: &mut [u16], one: &[u16], other: &[u16])
     }
 }
 
-/// The first minute with more than the capacity, or the end of the day.
 fn first_over(load: &[u16], capacity: u8) -> u16
     requires { IsDay load.now }
     ensures range { result ≤ 1440 }
@@ -184,8 +176,6 @@ fn first_over(load: &[u16], capacity: u8) -> u16
     MINUTES_OF_DAY
 }
 
-/// Adds the weight of the catch-up windows at each minute, all of which are among the others, to
-/// that of the windows without a lock.
 fn add_catch_up(free: &mut [u16], roles: &[Role], windows: &[Window], others: &[Window])
     requires free { IsDay free.old × IsSum (amount_in roles.now FreeWeight) windows.now free.old }
     requires others { others.now ≡ filter (has_group_or_catches roles.now) windows.now }
@@ -196,7 +186,6 @@ fn add_catch_up(free: &mut [u16], roles: &[Role], windows: &[Window], others: &[
     add_greater(free, &catch_up, &catch_up);
 }
 
-/// Adds the weight of all windows of one group at each minute.
 fn add_group(load: &mut [u16], roles: &[Role], windows: &[Window])
     requires { IsDay load.old }
     ensures each { IsAdded roles.now windows.now load.old load.new }
@@ -210,8 +199,8 @@ fn add_group(load: &mut [u16], roles: &[Role], windows: &[Window])
     add_greater(load, &alone, &shared);
 }
 
-/// Minutes before which the windows of a stretch keep each rule. At a minute before the end of the
-/// day a finder then looks first.
+/// For each rule, a minute of the last day before which the windows of a stretch keep it: its
+/// finder begins there.
 #[derive(Clone, Copy)]
 pub(crate) struct KeptUntil {
     pub(crate) apart: u16,
@@ -219,7 +208,6 @@ pub(crate) struct KeptUntil {
     pub(crate) free: u16,
 }
 
-/// How long on the day looked at the windows of a stretch keep each rule.
 pub(crate) fn kept_until(
     alloc: Global,
     roles: &[Role],
@@ -254,7 +242,6 @@ pub(crate) fn kept_until(
     })
 }
 
-/// The rules that the windows of a stretch keep at each minute of the day looked at.
 pub(crate) fn quiet_by_sums(
     alloc: Global,
     roles: &[Role],

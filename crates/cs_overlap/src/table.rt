@@ -1,4 +1,4 @@
-//! Tables over the minutes of the day looked at: sums or maxima over the windows at a minute.
+//! Tables over the minutes of the last day: sums or maxima over the windows that hold a minute.
 ghost use Rattle.std.specs.Prelude.{◌≡◌, ◌+◌, ◌*◌, ◌<◌, ◌≤◌, ◌⊎◌, ℕ, if◌then◌else◌, length, max, slice_index};
 ghost use Rattle.cs_overlap.specs.Sums.{AreAtMost, EachMinute, HoldsFrom, IsChanged, IsDay, IsGreatest, IsRaisedAt, IsReached, IsRunning, IsSum, amount_in, amount_of, capped, up_to};
 
@@ -7,7 +7,6 @@ use crate::role::{Role, role_of};
 use cs_civil::MINUTES_OF_DAY;
 use cs_windows::Window;
 
-/// The minutes of a day: a table has a place for each.
 pub(crate) const MINUTES: usize = MINUTES_OF_DAY as usize;
 
 /// A place for each minute of a day, and one for its end.
@@ -38,14 +37,12 @@ pub(crate) enum Amount {
     LockRun,
 }
 
-/// A number if it is counted, else 0.
 fn counted(is_counted: bool, number: u8) -> u8
     ensures { result ≡ (if is_counted then number else 0) }
 {
     if is_counted { number } else { 0 }
 }
 
-/// This amount of a run of such a job.
 pub(crate) fn amount_of(amount: Amount, role: Role) -> u8
     ensures { result ≡ amount_of amount role }
 {
@@ -61,8 +58,8 @@ pub(crate) fn amount_of(amount: Amount, role: Role) -> u8
     }
 }
 
-/// The minutes of the day looked at that a window holds: from the first on, below the second. Most
-/// begin on that day, and then no day is subtracted.
+/// The minutes of the last day that a window holds: from the first on, below the second. Most
+/// windows begin on that day, and then no day is subtracted.
 pub(crate) fn minutes_held(window: &Window) -> (usize, usize)
     ensures range { (result.0 ≤ result.1) × (result.1 ≤ 1440) }
     ensures held { HoldsFrom window.now result.0 result.1 }
@@ -80,7 +77,6 @@ pub(crate) fn minutes_held(window: &Window) -> (usize, usize)
     (first as usize, end as usize)
 }
 
-/// Adds a number at each minute that the window holds, up to the greatest number of the type.
 fn add(table: &mut [u16], window: &Window, number: u8)
     requires { IsDay table.old }
     ensures { IsChanged window.now (λ n. capped (n + number)) table.old table.new }
@@ -94,7 +90,6 @@ fn add(table: &mut [u16], window: &Window, number: u8)
     }
 }
 
-/// The first minute from this one on that isn't between `since` and `until`.
 fn first_unknown(first: usize, since: usize, until: usize) -> usize
     ensures from { first ≤ result }
     ensures known { (m : ℕ) → first ≤ m → m < result → (since ≤ m) × (m < until) }
@@ -106,8 +101,8 @@ fn first_unknown(first: usize, since: usize, until: usize) -> usize
     }
 }
 
-/// Raises each minute from one on and below another to this number, if it is less. Those from
-/// `since` on and below `until` have it already.
+/// Raises each minute from `first` on, below `end`, to the number, if it is less. Those from
+/// `since` on, below `until`, have it already, and are passed over.
 fn raise(table: &mut [u16], first: usize, end: usize, number: u8, since: usize, until: usize)
     requires day { IsDay table.old }
     requires inside { end ≤ 1440 }
@@ -124,8 +119,8 @@ fn raise(table: &mut [u16], first: usize, end: usize, number: u8, since: usize, 
     }
 }
 
-/// Notes that a table has a number from one minute on and below another: together with the minutes
-/// noted before if they meet, else in their place.
+/// Notes that a table has the number from `first` on, below `end`: joined with the minutes noted
+/// before if they meet, else in their place.
 fn note(since: &mut [usize], until: &mut [usize], number: u8, first: usize, end: usize)
     requires long { (length since.old ≡ 256) × (length until.old ≡ 256) }
     ensures long { (length since.new ≡ 256) × (length until.new ≡ 256) }
@@ -142,7 +137,7 @@ fn note(since: &mut [usize], until: &mut [usize], number: u8, first: usize, end:
     }
 }
 
-/// The sums of `sums`, each window added at each minute that it holds.
+/// The same as [`sums`], for more than [`MOST_TALLIED`] windows.
 fn sums_by_minute(roles: &[Role], amount: Amount, windows: &[Window]) -> [u16; MINUTES]
     ensures day { IsDay result }
     ensures each { IsSum (amount_in roles.now amount) windows.now result }
@@ -158,8 +153,8 @@ fn sums_by_minute(roles: &[Role], amount: Amount, windows: &[Window]) -> [u16; M
     table
 }
 
-/// At each minute of the day looked at, the greatest of this amount among the windows that hold it.
-/// Of windows in order of start each minute is looked at once for each amount.
+/// At each minute of the last day, the greatest of this amount among the windows that hold it. If
+/// the windows are in order of start, each minute is looked at once for each amount.
 pub(crate) fn greatest(roles: &[Role], amount: Amount, windows: &[Window]) -> [u16; MINUTES]
     ensures day { IsDay result }
     ensures each { IsGreatest (amount_in roles.now amount) windows.now result }
@@ -187,7 +182,6 @@ pub(crate) fn raise_at(table: &mut [u32], place: usize, number: u8)
     table[place] += u32::from(number);
 }
 
-/// From tables of what begins at each minute and has ended by it, what goes on at each.
 pub(crate) fn running(begun: &[u32], ended: &[u32]) -> [u16; MINUTES]
     requires long { (length begun.now ≡ 1441) × (length ended.now ≡ 1441) }
     requires order { EachMinute (λ m. up_to ended.now (m + 1) ≤ up_to begun.now (m + 1)) }
@@ -203,9 +197,9 @@ pub(crate) fn running(begun: &[u32], ended: &[u32]) -> [u16; MINUTES]
     table
 }
 
-/// At each minute of the day looked at, the sum of this amount over the windows that hold it, at
-/// most the greatest number of the type. Each amount is added where the window begins, and taken off
-/// where it ends, so that the cost doesn't grow with the minutes that windows hold.
+/// At each minute of the last day, the sum of this amount over the windows that hold it, at most
+/// 65,535. Each amount is added where the window begins and taken off where it ends, so that the
+/// cost doesn't grow with the minutes that windows hold.
 pub(crate) fn sums(roles: &[Role], amount: Amount, windows: &[Window]) -> [u16; MINUTES]
     ensures day { IsDay result }
     ensures each { IsSum (amount_in roles.now amount) windows.now result }

@@ -1,4 +1,3 @@
--- The parts in the comments at the front of lines, one after the other.
 use Rattle.std.proofs.Common.{◌≡◌, ◌∙◌, ℕ, List, [], ◌∷◌, ◌++◌, append_assoc, Option, None, Some, refl, sym, ap}
 use Rattle.cs_place.specs.Places.{part_in, parts_in, with_part}
 

@@ -1,4 +1,3 @@
--- A text by its last byte, and its last word.
 use Rattle.std.proofs.Common.{◌≡◌, ℕ, zero, suc, ◌+◌, ◌-◌, ◌<◌, ◌≤◌, true, false, List, [], ◌∷◌, ◌++◌, length, get_or, take, reverse, refl, sym, ap, ◌∙◌, arith}
 use Rattle.std.proofs.lemmas.List.{take_more, take_all, length-take-le, reverse-append, reverse-reverse}
 use Rattle.cs_table.specs.Text.{after, is_blank}

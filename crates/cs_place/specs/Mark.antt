@@ -3,7 +3,7 @@ use Rattle.std.specs.Prelude.{ℕ, ◌-◌, Bool, codes, bytes_eq, List}
 use Rattle.std.specs.List.{list_any}
 use Rattle.cs_table.specs.Setting.{SettingLine}
 
--- `CRONSAFE_TABLE`: by a setting of this name `run` sees that a table was gathered (this profile)
+-- `run` recognizes a gathered table by a setting of this name (this profile)
 abbrev pub mark_name : List ℕ
 mark_name = codes "CRONSAFE_TABLE"
 
@@ -11,6 +11,5 @@ mark_name = codes "CRONSAFE_TABLE"
 abbrev pub mark : SettingLine
 mark = record { number = 1; name = mark_name; value = codes "gathered" }
 
--- A table with such a setting was gathered.
 abbrev pub is_gathered : List SettingLine → Bool
 is_gathered settings = list_any (λ setting. bytes_eq setting.name mark_name) settings

@@ -1,4 +1,4 @@
--- Where the commands of a gathered table come from, read off the comments above them.
+-- Where the commands of a gathered table come from, by the comments above them.
 use Rattle.std.specs.Prelude.{ℕ, ◌+◌, Bool, not, ◌&&◌, ◌||◌, ◌==◌, nat_eq, nat_lt, if◌then◌else◌, List, [], ◌∷◌, ◌++◌, length, drop, reverse, Option, Some, None, codes, decimal, flat_map}
 use Rattle.std.specs.Char.{is_ascii_alphanumeric}
 use Rattle.std.specs.List.{find, list_all, list_any, starts_with}
@@ -41,17 +41,16 @@ part_in comment =
     then Some (drop 8 comment)
     else None
 
--- with a part's name, or nothing from there on
 abbrev pub with_part : Option (List ℕ) → List (List ℕ) → List (List ℕ)
 with_part None names = []
 with_part (Some name) names = name ∷ names
 
--- the parts in the comments at the front of lines
+-- the parts in the comments that the lines begin with
 unfoldable pub parts_in : List (List ℕ) → List (List ℕ)
 parts_in [] = []
 parts_in (line ∷ lines) = with_part (part_in line) (parts_in lines)
 
--- the place of the first line behind the comments with parts, where the lines begin at that number
+-- the place of the first line after the comments with parts; `number` is that of the first comment
 abbrev pub place_at : ℕ → List ℕ → List (List ℕ) → Place
 place_at number text lines = record {
   line = number + length (parts_in lines);
@@ -60,8 +59,8 @@ place_at number text lines = record {
   parts = parts_in lines;
 }
 
--- the place that the comment `#@ NAME:LINE USER` gives a line below it: these lines are below it,
--- the first of which has that number
+-- the place that the comment `#@ NAME:LINE USER` gives a line below; `number` is that of the first
+-- line below
 unfoldable pub place_in : ℕ → List ℕ → List (List ℕ) → Option Place
 place_in number [] lines = None
 place_in number (a ∷ []) lines = None
@@ -77,18 +76,18 @@ abbrev pub listed : Option Place → List Place
 listed None = []
 listed (Some place) = place ∷ []
 
--- of the lines of a text, the first of which is above the line of that number
+-- `number` is that of the line below the first of these lines
 unfoldable pub places_from : ℕ → List (List ℕ) → List Place
 places_from number [] = []
 places_from number (line ∷ lines) =
     listed (place_in number line lines) ++ places_from (number + 1) lines
 
--- those of a gathered table; another table has no places, whatever its comments say
+-- A table that wasn't gathered has no places, whatever its comments say.
 abbrev pub places_of : List ℕ → Table → List Place
 places_of text table =
     if is_gathered table.settings then places_from 2 (lines_of text) else []
 
--- ---- how a text tells it
+-- ---- the text of places
 
 -- `/etc/cron.d/munin:12 (munin)`
 unfoldable pub place_text : Place → List ℕ
@@ -99,21 +98,19 @@ unfoldable pub place_line : Place → List ℕ → List ℕ
 place_line place command = codes "line " ++ (decimal place.line ++ (codes " is "
     ++ (place_text place ++ (codes ": " ++ (flat_map shown command ++ 10 ∷ [])))))
 
--- of a line that is told or not
 abbrev pub line_told : List ℕ → Bool → Option Place → List ℕ → List ℕ
 line_told front told None command = []
 line_told front told (Some place) command = if told then front ++ place_line place command else []
 
--- the place of a line, where it has one
+-- the place of a line, if it has one
 abbrev pub place_of : List Place → ℕ → Option Place
 place_of places number = find (λ place. place.line == number) places
 
--- among these jobs, which are the lines of a table, numbered from 0
 abbrev pub is_among : List ℕ → ℕ → Bool
 is_among jobs job = list_any (λ j. j == job) jobs
 
--- the places of the lines that are these jobs, a line each, in order of line; the first line is
--- this job
+-- the places of those lines that are among the jobs, in order of line; `job` is the number of the
+-- first line, from 0
 unfoldable pub places_told : List ℕ → List Place → List ℕ → ℕ → List CommandLine → List ℕ
 places_told front places jobs job [] = []
 places_told front places jobs job (line ∷ lines) =

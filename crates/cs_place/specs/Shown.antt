@@ -1,7 +1,7 @@
 -- How bytes are shown, so that a text stays one line and a terminal is unharmed.
 use Rattle.std.specs.Prelude.{ℕ, ◌+◌, ◌/◌, ◌%◌, Bool, ◌&&◌, ◌==◌, not, nat_le, nat_lt, if◌then◌else◌, List, [], ◌∷◌}
 
--- a byte that a comment shows as it is: no control byte and no `\`
+-- a byte that is shown as it is: no control byte and no `\`
 abbrev pub is_plain : ℕ → Bool
 is_plain b = nat_le 32 b && not (b == 127) && not (b == 92)
 

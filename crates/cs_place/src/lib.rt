@@ -1,4 +1,4 @@
-//! Where the commands of a gathered table come from, and how bytes are shown.
+//! Reads where the commands of a gathered table come from, and shows bytes in one safe line.
 #![tactic(auto)]
 
 mod mark;

@@ -4,7 +4,7 @@ ghost use Rattle.std.specs.List.{list_all};
 ghost use Rattle.std.specs.Str.{IsUtf8};
 ghost use Rattle.cs_place.specs.Places.{is_name_byte, is_part_name, part_in};
 
-/// What stands in front of a part's name in its comment.
+/// Precedes the name of a part in its comment.
 pub const PART: &[u8] = b"#@ part ";
 
 fn is_name_byte(byte: u8) -> bool
@@ -20,7 +20,7 @@ fn has_only_name_bytes(name: &[u8]) -> bool
 }
 
 /// Whether run-parts(8) runs a program of this name, and cron(8) reads a table of it in a folder of
-/// tables: one of ASCII letters, digits, `_` and `-` alone.
+/// tables: it consists of ASCII letters, digits, `_` and `-`.
 #[tactic(auto, using(crate::proofs::PartNames::part_name_is_text))]
 pub fn is_part_name(name: &[u8]) -> bool
     ensures value { result ≡ is_part_name name.now }
@@ -29,7 +29,6 @@ pub fn is_part_name(name: &[u8]) -> bool
     !name.is_empty() && has_only_name_bytes(name)
 }
 
-/// The name of the part in a comment, if it has one.
 #[tactic(auto, unfolding(crate::specs::Places::part_in))]
 pub(crate) fn part_in(comment: &[u8]) -> Option<&[u8]>
     ensures { option_map (λ name. name.now) result ≡ part_in comment.now }

@@ -17,14 +17,14 @@ use cs_crontab::{Crontab, Line};
 use cs_table::text::{first_line, is_blank, trim_end};
 use std::alloc::{AllocError, Global};
 
-/// A line of a gathered table, and the place that it comes from.
+/// A line of a gathered table, and where it comes from.
 #[derive(Drop)]
 pub struct Place {
     /// The number of the line in the gathered table, from 1.
     pub line: u32,
     /// `NAME:LINE` of the table that it comes from.
     pub origin: Bytes,
-    /// The user that cron runs the command as there.
+    /// The user as which cron runs the command there.
     pub user: Bytes,
     /// The names of the parts that the command runs by run-parts(8), in their order.
     pub parts: Sequence<Bytes>,
@@ -70,7 +70,7 @@ fn is_place(text: &[u8]) -> bool
     has_colon(before) && !user.is_empty() && !has_control(text)
 }
 
-/// The names of the parts in the comments at the front of a text.
+/// The parts in the comments that the text begins with.
 fn parts_in(alloc: Global, text: &[u8]) -> Result<Sequence<Bytes>, AllocError>
     ensures parts { IfOk result (λ parts. parts ≡ parts_in (lines_of text.now)) }
     ensures few { IfOk result (λ parts. length parts ≤ length text.now) }
@@ -88,7 +88,7 @@ fn parts_in(alloc: Global, text: &[u8]) -> Result<Sequence<Bytes>, AllocError>
     Ok(parts)
 }
 
-/// The place that a comment gives a line below it, where the line directly below has that number.
+/// `number` is that of the first line below the comment.
 #[tactic(auto, unfolding(crate::specs::Places::place_in))]
 fn place_in(
     alloc: Global,
@@ -115,7 +115,8 @@ fn place_in(
     }))
 }
 
-/// Adds the places that the comments among the lines of a text give.
+/// Adds the places in the comments of a text that may not be a valid table. The only error is out
+/// of memory.
 #[tactic(auto, unfolding(crate::specs::Places::places_from))]
 pub fn push_places(alloc: Global, places: &mut Vec<Place>, text: &[u8]) -> Result<(), AllocError>
     requires { length text.now ≤ MAX_TABLE }
@@ -136,8 +137,8 @@ pub fn push_places(alloc: Global, places: &mut Vec<Place>, text: &[u8]) -> Resul
     Ok(())
 }
 
-/// Returns the places of a gathered table that the bytes denote, in order of line. Another table has
-/// none, whatever its comments say. The only error is out of memory.
+/// Returns the places of a gathered table, in order of line; none of another table. The only error
+/// is out of memory.
 pub fn read_places(
     alloc: Global,
     bytes: &[u8],
@@ -183,7 +184,7 @@ fn push_place_line(
     text.extend_from_slice(b"\n")
 }
 
-/// Returns the place of the line with that number, if it has one.
+/// The place of the line of that number, if it has one.
 pub fn place_of(places: &[Place], number: u32) -> Option<&Place>
     ensures { option_map (λ place. place.now) result ≡ place_of places.now number }
 {
@@ -196,7 +197,6 @@ fn is_among(jobs: &[usize], job: usize) -> bool
     jobs.iter().any(|other| *other == job)
 }
 
-/// Adds the place of the line behind the front, if it has one and is one of these jobs.
 fn push_line_told(
     alloc: Global,
     text: &mut Vec<u8>,
@@ -221,9 +221,8 @@ fn push_line_told(
     }
 }
 
-/// Adds the places of the lines that are these jobs, which are numbered from 0: each is a line
-/// `line 14 is /etc/cron.d/munin:12 (munin): COMMAND` behind the front, in order of line. The only
-/// error is out of memory.
+/// Adds `line 14 is /etc/cron.d/munin:12 (munin): COMMAND` after the front, a line for each place
+/// of these jobs, which are the numbers of lines from 0. The only error is out of memory.
 #[tactic(auto, unfolding(crate::specs::Places::places_told))]
 pub fn push_places_told(
     alloc: Global,

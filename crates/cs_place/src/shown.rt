@@ -27,8 +27,8 @@ pub fn push_byte(text: &mut Vec<u8>, byte: u8) -> Result<(), AllocError>
     text.extend_from_slice(&[b'\\', b'x', hex_digit(byte / 16), hex_digit(byte % 16)])
 }
 
-/// Adds bytes so that a comment or a note stays one line, and a terminal shows it unharmed: a byte
-/// below 32, 127 and `\` as `\xNN`. The only error is out of memory.
+/// Adds bytes so that a text stays one line, and a terminal shows it unharmed: a byte below 32, 127
+/// and `\` as `\xNN`. The only error is out of memory.
 pub fn push_shown(text: &mut Vec<u8>, bytes: &[u8]) -> Result<(), AllocError>
     ensures { OnOk result (text.new.items ≡ text.old.items ++ flat_map shown bytes.now) }
 {

@@ -1,4 +1,4 @@
--- The plan of tables of which nothing is declared is whole.
+-- The plain plan of tables is whole.
 use Rattle.std.proofs.Common.{◌≡◌, ◌≢◌, ℕ, ◌+◌, ◌≤◌, List, [], ◌∷◌, ◌++◌, Bool, true, false, cond, map, length, Some, None, refl, ap, ◌∙◌, arith}
 use Rattle.std.specs.Prelude.{All}
 use Rattle.std.specs.List.{find}
@@ -30,16 +30,12 @@ pub map_append : {A B : Type 0} (f : A → B) (xs ys : List A) → map f (xs ++ 
 map_append f [] ys = refl
 map_append f (x ∷ xs) ys = ap (λ zs. f x ∷ zs) (map_append f xs ys)
 
--- ---- lines at times
-
 timed_line : (when : When) → is_reboot when ≡ false → when ≢ Reboot
 timed_line (At schedule) e = λ h. absurd cc
 timed_line Reboot e = absurd cc
 
 pub timed : (lines : List CommandLine) → find (λ line. is_reboot line.when) lines ≡ None → All IsTimed lines
 timed lines e = All-weaker (λ line. is_reboot line.when ≡ false) IsTimed (λ line h. timed_line line.when h) lines (find_none (λ line. is_reboot line.when) lines e)
-
--- ---- the plain plan
 
 plain_places : (max : ℕ) (places : List ℕ) → map (λ j. j.place) (map (plain_job max) places) ≡ places
 plain_places max [] = refl

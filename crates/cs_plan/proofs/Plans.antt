@@ -11,7 +11,7 @@ use Rattle.cs_plan.specs.declared.limits.TheConstants.{MAX_MINUTES}
 use Rattle.cs_plan.specs.Job.{DeclaredJob, IsPossible}
 use Rattle.cs_plan.specs.Plan.{Declared, IsWhole, IsListed, crons, places_of, no_job, job_at, as_plan}
 
--- what holds of each and of the default holds at each place
+-- what holds of each element and of the default holds at each place
 pub at_or : {X : Type 0} (P : X → Type 0) (xs : List X) (j : ℕ) (d : X) → All P xs → P d → P (get_or xs j d)
 at_or P [] j d each base = base
 at_or P (x ∷ xs) zero d each base = All-head P x xs each

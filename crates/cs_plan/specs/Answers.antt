@@ -5,11 +5,10 @@ use Rattle.cs_plan.specs.declared.fault.DeclError.TheVariants.{At, OutOfMemory}
 use Rattle.cs_plan.specs.declared.fault.DeclFault.{DeclFault}
 use Rattle.cs_plan.specs.declared.fault.Place.{Place}
 
--- a fault, and its place if it has one
 abbrev pub Fault : Type 0
 Fault = DeclFault × Option Place
 
--- What a call answered is what the definition answers, unless memory ran out.
+-- what a call answered is what the definition answers, unless memory ran out
 abbrev pub Fails : {X : Type 0} → DeclError → Result X Fault → Type 0
 Fails OutOfMemory answer = Unit {0}
 Fails (At fault place) answer = answer ≡ Err (fault, place)

@@ -4,7 +4,8 @@ use Rattle.cs_history.specs.declared.mode.Mode.{Mode}
 use Rattle.cs_history.specs.Plan.{takes}
 use Rattle.cs_plan.specs.declared.limits.TheConstants.{MAX_MINUTES, MAX_WEIGHT}
 
--- its line's place in the table, a run's most minutes and weight, its group's place, and its mode
+-- its line's place in the table, the most minutes and the weight of a run, its group's place, its
+-- mode
 pub record DeclaredJob : Type 0 where
   pub place : ℕ
   pub max : ℕ
@@ -12,7 +13,7 @@ pub record DeclaredJob : Type 0 where
   pub group : Option ℕ
   pub mode : Mode
 
--- Minutes and weight are in their ranges, and a job that takes a lock belongs to a group.
+-- minutes and weight are in their ranges, and a job that takes a lock belongs to a group
 pub record IsPossible (job : DeclaredJob) : Type 0 where
   pub max : (1 ≤ job.max) × (job.max ≤ MAX_MINUTES)
   pub weight : (1 ≤ job.weight) × (job.weight ≤ MAX_WEIGHT)

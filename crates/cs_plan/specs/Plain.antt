@@ -1,4 +1,4 @@
--- The plan of tables of which nothing is declared but the longest time of every run.
+-- The plan of tables for which only the longest time of every run is declared.
 use Rattle.std.specs.Prelude.{ℕ, pos, nat_le, [], ◌++◌, map, None, Bool, not, ◌&&◌, Result, Err, if◌then◌else◌}
 use Rattle.cs_crontab.specs.Crontab.{Table as Crontab}
 use Rattle.cs_anacrontab.specs.Anacrontab.{Table as Anacrontab}
@@ -12,7 +12,7 @@ use Rattle.cs_plan.specs.Answers.{Fault}
 use Rattle.cs_plan.specs.Reboot.{reboot_fault}
 use Rattle.cs_plan.specs.Answers.{unless}
 
--- every job may take that long and weighs 1; none has a group, none takes a lock
+-- weight 1, no group, no lock
 abbrev pub plain_job : ℕ → ℕ → DeclaredJob
 plain_job max place = record { place = place; max = max; weight = 1; group = None; mode = Plain }
 

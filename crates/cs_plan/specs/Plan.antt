@@ -23,11 +23,11 @@ pub record DeclaredGroup : Type 0 where
   pub name : List ℕ
   pub exclusive : Bool
 
--- The jobs are those of the crontab and then those of the anacrontab, each in order of line. The
--- pass minute is one of the day, the offset counts minutes to the east of UTC. The crontab is
--- without the lines of the numbers that are left out; so many jobs have the default, and so many
--- entries are a guess. One line may have an entry with its command and no schedule while another
--- has that command too. One member may stand twice in an object of the declarations' text.
+-- The jobs are those of the crontab, then those of the anacrontab, each in order of line. The
+-- crontab has none of the lines that are left out. The pass minute is one of the day, and the
+-- offset counts minutes east of UTC. So many jobs have the default, and so many entries are a
+-- guess. An untimed line has an entry with its command and no schedule, while another line has that
+-- command too. A doubled member stands twice in an object of the declarations' text.
 pub record Declared : Type 0 where
   pub crontab : Crontab
   pub anacrontab : Anacrontab
@@ -43,7 +43,6 @@ pub record Declared : Type 0 where
   pub untimed : Option ℕ
   pub doubled : Option (List ℕ)
 
--- how many of the jobs are cron jobs
 abbrev pub crons : Declared → ℕ
 crons d = length d.crontab.lines
 
@@ -51,15 +50,13 @@ crons d = length d.crontab.lines
 abbrev pub IsTimed : CommandLine → Type 0
 IsTimed line = line.when ≢ Reboot
 
--- the places of a table's lines, counted from 0
 abbrev pub places_of : {A : Type 0} → List A → List ℕ
 places_of lines = range_with_len 0 (length lines)
 
--- the group is one of so many
 abbrev pub IsListed : ℕ → DeclaredJob → Type 0
 IsListed groups job = IfSome job.group (λ g. g < groups)
 
--- Each line of the tables has its job, each number is in its range, and each group is there.
+-- each line of the tables has its job, each number is in its range, and each group is there
 pub record IsWhole (d : Declared) : Type 0 where
   pub few_commands : crons d ≤ MAX_COMMANDS
   pub few_lines : length d.anacrontab.lines ≤ MAX_JOBS
@@ -77,9 +74,9 @@ pub record IsWhole (d : Declared) : Type 0 where
   pub pass : IfSome d.pass (λ m. m < MINUTES_OF_DAY)
   pub offset : unsigned_abs d.offset ≤ MAX_OFFSET
 
--- ---- what a history knows of a plan
+-- ---- what a history sees of a plan
 
--- the value for no job, no line and no group
+-- the values for no job, no line and no group
 abbrev pub no_job : DeclaredJob
 no_job = record { place = 0; max = 1; weight = 1; group = None; mode = Plain }
 
@@ -95,20 +92,19 @@ no_group = record { name = []; exclusive = false }
 abbrev pub job_at : Declared → ℕ → DeclaredJob
 job_at d j = slice_index_or d.jobs j no_job
 
--- the line of a cron job: its number is the line's place in the crontab
+-- the number of a cron job is its line's place in the crontab
 abbrev pub command_of : Declared → ℕ → CommandLine
 command_of d j = slice_index_or d.crontab.lines j no_command
 
--- the line of an anacron job: those of the anacrontab come after those of the crontab
+-- anacron jobs come after those of the crontab
 abbrev pub line_of : Declared → ℕ → JobLine
 line_of d j = slice_index_or d.anacrontab.lines (j - crons d) no_line
 
--- A command is due at the minutes of its schedule, by the kind of their day (crontab(5)).
+-- a command is due at the minutes of its schedule, by the kind of their day (crontab(5))
 abbrev pub is_due : When → ℕ → Bool
 is_due (At schedule) t = is_time_due schedule (kind (t / MINUTES_OF_DAY)) (t % MINUTES_OF_DAY)
 is_due Reboot t = false
 
--- the plan that the declared values make
 abbrev pub as_plan : Declared → Plan
 as_plan d = record {
   crons = crons d;

@@ -1,4 +1,4 @@
--- The faults of declarations as printed.
+-- The faults of declarations as printed: number and name.
 use Rattle.std.specs.Prelude.{ℕ, ◌+◌, List, [], ◌++◌, Option, Some, None, codes, decimal}
 use Rattle.cs_plan.specs.declared.fault.DeclFault.{DeclFault}
 use Rattle.cs_plan.specs.declared.fault.DeclFault.TheVariants as faults
@@ -7,7 +7,6 @@ use Rattle.cs_plan.specs.declared.fault.Place.TheVariants.{Group, Cron, Anacron,
 use Rattle.cs_plan.specs.declared.fault.DeclError.{DeclError}
 use Rattle.cs_plan.specs.declared.fault.DeclError.TheVariants.{At, OutOfMemory}
 
--- number and name
 abbrev pub fault_text : DeclFault → List ℕ
 fault_text faults.NotJson = codes "1 NotJson"
 fault_text faults.BadShape = codes "2 BadShape"
@@ -30,7 +29,7 @@ fault_text faults.BadParts = codes "18 BadParts"
 fault_text faults.OtherSchedule = codes "19 OtherSchedule"
 fault_text faults.OtherParts = codes "20 OtherParts"
 
--- an entry is counted from 1, a line is named by its number, and a job by its identifier
+-- entries are counted from 1; lines go by their numbers, jobs by their identifiers
 abbrev pub place_text : Place → List ℕ
 place_text (Group i) = codes " at group " ++ decimal (i + 1)
 place_text (Cron i) = codes " at cron " ++ decimal (i + 1)
@@ -39,7 +38,6 @@ place_text (LeftOut i) = codes " at left_out " ++ decimal (i + 1)
 place_text (Line number) = codes " at line " ++ decimal number
 place_text (Job identifier) = codes " at job " ++ identifier
 
--- the place, if there is one
 abbrev pub placed_text : Option Place → List ℕ
 placed_text None = []
 placed_text (Some place) = place_text place

@@ -10,46 +10,47 @@ use thiserror::Error;
 #[derive(Clone, Copy, Debug, PartialEq, Eq, Error)]
 #[error("{}", self.text())]
 pub enum DeclFault {
-    /// The bytes are not JSON.
+    /// The bytes aren't JSON.
     NotJson,
-    /// A member is absent, unknown or of another type, a number not whole, or the offset too great.
+    /// A member is absent, unknown or of another type, a number isn't whole, or the offset is too
+    /// great.
     BadShape,
-    /// No command has the number or the text of an entry, or no job its identifier.
+    /// An entry names no line of the crontab, or no job of the anacrontab.
     NoSuchLine,
     /// A job has no entry, and there is no default.
     Undeclared,
     /// A group, a line or an identifier is declared again, or a declared line is left out.
     TwiceDeclared,
-    /// The longest time is not from 1 to [`MAX_MINUTES`](crate::MAX_MINUTES) minutes.
+    /// A longest time isn't from 1 to [`MAX_MINUTES`](crate::MAX_MINUTES) minutes.
     BadMax,
-    /// The weight is not from 1 to [`MAX_WEIGHT`](crate::MAX_WEIGHT).
+    /// A weight isn't from 1 to [`MAX_WEIGHT`](crate::MAX_WEIGHT).
     BadWeight,
-    /// The capacity is not from 1 to [`MAX_CAPACITY`](crate::MAX_CAPACITY).
+    /// The capacity isn't from 1 to [`MAX_CAPACITY`](crate::MAX_CAPACITY).
     BadCapacity,
     /// A job that takes a lock has no group.
     ModeNeedsGroup,
-    /// The group is not declared.
+    /// The group isn't declared.
     UnknownGroup,
-    /// The group is one more than [`MAX_GROUPS`](crate::MAX_GROUPS).
+    /// The group is the first above [`MAX_GROUPS`](crate::MAX_GROUPS).
     TooManyGroups,
-    /// The catch-up hours are not two minutes of a day in order, the last up to 1,440.
+    /// The catch-up hours aren't two minutes of a day in order, the last up to 1,440.
     BadHours,
     /// An anacron job has a mode.
     ModeOnAnacron,
-    /// The crontab has an `@reboot` line that is not left out.
+    /// The crontab has an `@reboot` line that isn't left out.
     RebootLine,
-    /// The pass minute is not from 0 to 1,439.
+    /// The pass minute isn't from 0 to 1,439.
     BadPassMinute,
-    /// The line of an entry has another command than the entry tells.
+    /// The line of an entry has another command than the entry gives.
     OtherCommand,
-    /// Several lines have the command of an entry without a number.
+    /// An entry without a number names several lines.
     AmbiguousCommand,
-    /// Two parts have one name, the longest time of a part is not from 1 to
+    /// Two parts have one name, the longest time of a part isn't from 1 to
     /// [`MAX_MINUTES`](crate::MAX_MINUTES) minutes, or all together are above that of the entry.
     BadParts,
-    /// The line of an entry has another schedule than the entry tells.
+    /// The line of an entry has another schedule than the entry gives.
     OtherSchedule,
-    /// The parts of an entry are not those of its line's place in a gathered table.
+    /// The parts of an entry aren't those of its line's place in a gathered table.
     OtherParts,
 }
 
@@ -108,8 +109,7 @@ fn numbered(alloc: Global, front: &str, number: u128) -> Result<Bytes, AllocErro
 }
 
 impl Place {
-    /// Formats the place as printed after a fault: ` at cron 2`, with entries counted from 1. The
-    /// only error is out of memory.
+    /// Formats the place as printed after a fault, ` at cron 2`, with entries counted from 1.
     pub fn text(&self, alloc: Global) -> Result<Bytes, AllocError>
         ensures { IfOk result (λ text. text ≡ place_text self.now) }
     {
@@ -143,7 +143,7 @@ pub enum DeclError {
 }
 
 impl DeclError {
-    /// Formats the fault and its place: `6 BadMax at cron 2`. The only error is out of memory.
+    /// Formats the fault and its place: `6 BadMax at cron 2`.
     pub fn text(&self, alloc: Global) -> Result<Bytes, AllocError>
         ensures { IfOk result (λ text. text ≡ error_text self.now) }
     {

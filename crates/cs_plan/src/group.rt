@@ -20,7 +20,7 @@ impl Model for Group {
 }
 
 impl Group {
-    /// Makes a group of this name, whose runs exclude one another or not.
+    /// The runs of its jobs exclude one another if it is exclusive.
     pub fn new(name: Bytes, exclusive: bool) -> Group
         ensures { result ≡ record { name = name; exclusive = exclusive } }
     {
@@ -30,7 +30,7 @@ impl Group {
         }
     }
 
-    /// Copies the group. The only error is out of memory.
+    /// Copies the group.
     pub(crate) fn copy(&self, alloc: Global) -> Result<Group, AllocError>
         ensures { IfOk result (λ group. group ≡ self.now) }
     {
@@ -40,14 +40,14 @@ impl Group {
         })
     }
 
-    /// Returns its name, which is UTF-8 and unlike that of any other group of its plan.
+    /// Returns its name: UTF-8, and unlike that of any other group of its plan.
     pub fn name(&self) -> &[u8]
         ensures { result.now ≡ self.now.name }
     {
         self.title.as_slice()
     }
 
-    /// Checks whether no two runs of its jobs may overlap, unless both share its lock.
+    /// Whether no two runs of its jobs may overlap, unless both share its lock.
     pub fn is_exclusive(&self) -> bool
         ensures { result ≡ self.now.exclusive }
     {

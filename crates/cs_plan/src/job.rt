@@ -5,7 +5,7 @@ ghost use Rattle.cs_history.specs.Plan.{takes};
 use cs_history::Mode;
 use std::marker::Model;
 
-/// The declaration of a job.
+/// What is declared of a job.
 #[derive(Clone, Copy, Debug, PartialEq, Eq)]
 pub struct Job {
     place: usize,
@@ -48,10 +48,8 @@ impl Model for Job {
 impl Job {
     ghost use Rattle.cs_plan.specs.Job.{IsPossible};
 
-    /// Makes the declaration of the job at a place of its table: its longest time in minutes from 1
-    /// to [`MAX_MINUTES`](crate::MAX_MINUTES), its weight from 1 to
-    /// [`MAX_WEIGHT`](crate::MAX_WEIGHT), its group, and its mode, which needs a group where it takes
-    /// a lock.
+    /// Makes the declaration of the job at a place of its table: its longest time in minutes,
+    /// weight, group and mode, each in range; a mode that takes a lock needs a group.
     pub fn new(place: usize, max: u16, weight: u8, group: Option<u8>, mode: Mode) -> Job
         requires { IsPossible (record {
           place = place;
@@ -104,7 +102,7 @@ impl Job {
         self.group
     }
 
-    /// Returns how it treats the lock of its group. A job that takes the lock has a group.
+    /// Returns how it treats the lock of its group; if it takes the lock, it has a group.
     pub fn mode(self) -> Mode
         ensures { result ≡ self.mode }
     {

@@ -1,4 +1,4 @@
-//! How a text names the jobs of a plan.
+//! Names the jobs of a plan in a text.
 ghost use Rattle.std.specs.Prelude.{◌≡◌, ◌++◌, OnOk};
 ghost use Rattle.cs_plan.specs.JobNames.{command_name, due_name, identifier_of};
 
@@ -6,7 +6,7 @@ use crate::plan::Plan;
 use cs_civil::push_number;
 use std::alloc::{AllocError, Global};
 
-/// Adds `line N`, the name of a cron job. The only error is out of memory.
+/// Adds `line N`, the name of a cron job.
 #[tactic(auto, unfolding(crate::specs::JobNames::command_name))]
 pub fn push_command_name(
     alloc: Global,
@@ -24,7 +24,7 @@ pub fn push_command_name(
     push_number(alloc, text, u128::from(number))
 }
 
-/// Adds `line N due `. The only error is out of memory.
+/// Adds `line N due `.
 #[tactic(auto, unfolding(crate::specs::JobNames::due_name))]
 pub fn push_due_name(
     alloc: Global,
@@ -38,7 +38,7 @@ pub fn push_due_name(
     text.extend_from_slice(b" due ")
 }
 
-/// Returns the identifier of an anacron job, nothing if there is no such job.
+/// Returns the identifier of an anacron job; nothing if there is no such job.
 pub fn identifier_of(plan: &Plan, job: usize) -> &[u8]
     ensures { result.now ≡ identifier_of plan.now job }
 {

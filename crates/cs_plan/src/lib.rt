@@ -1,4 +1,4 @@
-//! A plan: two tables, and what an operator declares of them.
+//! Holds a plan: a crontab, an anacrontab, and what an operator declares of their jobs.
 #![tactic(auto)]
 
 mod fault;

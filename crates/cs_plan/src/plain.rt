@@ -82,8 +82,7 @@ fn plain_plan(
     ))
 }
 
-/// Whether a longest time is one that a job may have, in minutes: from 1 to
-/// [`MAX_MINUTES`](crate::MAX_MINUTES).
+/// Whether a longest time is from 1 to [`MAX_MINUTES`](crate::MAX_MINUTES) minutes.
 pub fn is_possible_max(max: u64) -> bool
     ensures { result ≡ is_possible_max max }
 {
@@ -91,11 +90,11 @@ pub fn is_possible_max(max: u64) -> bool
 }
 
 impl Plan {
-    /// Returns the plan of the tables with default declarations and one longest time in minutes for
-    /// all jobs: weight 1, no group, the greatest capacity, catch-up at all hours, no pass minute,
+    /// Returns the plan of tables with one longest time in minutes for all jobs, and else with
+    /// defaults: weight 1, no group, the greatest capacity, catch-up at all hours, no pass minute,
     /// UTC.
     ///
-    /// [`BadMax`](DeclFault::BadMax) if the time is not from 1 to
+    /// [`BadMax`](DeclFault::BadMax) if the time isn't from 1 to
     /// [`MAX_MINUTES`](crate::MAX_MINUTES); else [`RebootLine`](DeclFault::RebootLine) with the
     /// first `@reboot`. Memory may run out.
     #[tactic(auto, unfolding(crate::specs::Plain::plain_of))]

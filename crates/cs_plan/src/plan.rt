@@ -17,8 +17,7 @@ use std::marker::Model;
 /// A crontab and an anacrontab with the declarations of their jobs.
 ///
 /// Jobs are numbered from 0: first the commands of the crontab, then the jobs of the anacrontab,
-/// each in order of line. No command is an `@reboot`. Lines that declarations leave out are not in
-/// the crontab.
+/// each in order of line. The crontab has no `@reboot`, and none of the lines that are left out.
 #[derive(Drop)]
 pub struct Plan {
     crontab: Crontab,
@@ -98,7 +97,7 @@ pub fn copy_name(alloc: Global, name: &Option<Bytes>) -> Result<Option<Bytes>, A
 impl Plan {
     ghost use Rattle.cs_plan.specs.Plan.{IsTimed, IsWhole, crons, as_plan, job_at};
 
-    /// Makes a plan of tables and what is declared of them, which fit together.
+    /// Makes a plan of tables and declarations that fit together.
     pub fn new(
         crontab: Crontab,
         anacrontab: Anacrontab,
@@ -163,7 +162,7 @@ impl Plan {
         }
     }
 
-    /// Copies the plan. The only error is out of memory.
+    /// Copies the plan.
     pub fn copy(&self, alloc: Global) -> Result<Plan, AllocError>
         ensures { IfOk result (λ plan. plan ≡ self.now) }
     {
@@ -184,7 +183,7 @@ impl Plan {
         })
     }
 
-    /// Copies the plan with other jobs, which fit it as its own do. The only error is out of memory.
+    /// Copies the plan with other jobs.
     pub fn with_jobs(&self, alloc: Global, jobs: Sequence<Job>) -> Result<Plan, AllocError>
         requires { IsWhole (record self.now { jobs = jobs }) }
         ensures { IfOk result (λ plan. plan ≡ record self.now { jobs = jobs }) }
@@ -209,7 +208,7 @@ impl Plan {
         &self.anacrontab
     }
 
-    /// Returns the number of jobs of the crontab, which are the first.
+    /// Returns how many jobs are the crontab's; they are the first.
     pub fn crons(&self) -> usize
         ensures value { result ≡ crons self.now }
         ensures within { crons self.now ≤ length self.now.jobs }
@@ -217,7 +216,7 @@ impl Plan {
         self.crontab.lines().len()
     }
 
-    /// Returns the declarations of the jobs, by number: at most 320.
+    /// Returns what is declared of the jobs, by number: at most 320.
     pub fn jobs(&self) -> &[Job]
         ensures value { result.now ≡ self.now.jobs }
         // each line has its job, each number is in range, and each group exists
@@ -232,8 +231,8 @@ impl Plan {
         self.jobs.as_slice()
     }
 
-    /// Returns the declaration of the job with this number. Past the last job it is one of a minute,
-    /// of weight 1, without group or lock.
+    /// Returns what is declared of the job with this number. Past the last job it is a minute,
+    /// weight 1, and neither group nor lock.
     pub fn job_at(&self, number: u16) -> Job
         ensures { result ≡ job_at self.now number }
     {
@@ -251,7 +250,7 @@ impl Plan {
         self.groups.as_slice()
     }
 
-    /// Checks whether runs of this group's jobs exclude one another.
+    /// Whether runs of this group's jobs exclude one another.
     pub fn is_exclusive(&self, group: Option<u8>) -> bool
         ensures { result ≡ exclusive_group (as_plan self.now) group }
     {
@@ -297,7 +296,7 @@ impl Plan {
         self.offset
     }
 
-    /// Returns the numbers of the lines that the crontab is without, in order of line.
+    /// Returns the numbers of the lines that are left out of the crontab, in order of line.
     pub fn left_out(&self) -> &[u32]
         ensures { result.now ≡ self.now.left_out }
     {
@@ -318,16 +317,16 @@ impl Plan {
         self.guessed
     }
 
-    /// Returns the number of the first line whose entry tells its command and no schedule, while
-    /// another line has that command too, if there is one.
+    /// Returns the number of the first line whose entry gives its command and no schedule, while
+    /// another line has that command too.
     pub fn untimed(&self) -> Option<u32>
         ensures { result ≡ self.now.untimed }
     {
         self.untimed
     }
 
-    /// Returns the first member that stands twice in one object of the declarations' text, if one
-    /// does. The last one of that name counts.
+    /// Returns the first member that stands twice in one object of the declarations' text. The last
+    /// one of that name counts.
     pub fn doubled(&self) -> &Option<Bytes>
         ensures { result.now ≡ self.now.doubled }
     {

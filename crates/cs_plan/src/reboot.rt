@@ -1,4 +1,4 @@
-//! The first line that starts a command at startup.
+//! Finds the first line that starts a command at startup.
 ghost use Rattle.std.specs.Prelude.{◌≡◌, option_map};
 ghost use Rattle.std.specs.List.{find};
 ghost use Rattle.cs_plan.specs.Reboot.{at_line, is_reboot};
@@ -19,14 +19,14 @@ pub fn is_reboot(line: &Line) -> bool
     }
 }
 
-/// Returns the first such line, if there is one.
+/// Returns the first such line.
 pub fn first_reboot(lines: &[Line]) -> Option<&Line>
     ensures { option_map (λ l. l.now) result ≡ find (λ line. is_reboot line.when) lines.now }
 {
     lines.iter().find(|line| is_reboot(line))
 }
 
-/// Returns the fault, at a line if there is one.
+/// Returns the fault at a line; none without a line.
 pub fn at_line(fault: DeclFault, line: Option<&Line>) -> Option<Found>
     ensures { result ≡ at_line fault (option_map (λ l. l.now) line.entry) }
 {

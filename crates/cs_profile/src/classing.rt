@@ -15,7 +15,7 @@ pub struct Classing {
 pub struct DayClass {
     /// The profile of its days: which jobs are due on them.
     pub profile: u16,
-    /// What still waits for the locks of groups, by group; a group that has no piece isn't there.
+    /// What still waits for the locks of groups, by group. A group without a piece is missing.
     pub bounds: Vec<GroupBound>,
 }
 
@@ -27,7 +27,7 @@ pub struct GroupBound {
 }
 
 impl Classing {
-    /// A class for each profile, in which nothing waits. The only error is want of memory.
+    /// Returns a class for each profile, in which nothing waits. The only error is out of memory.
     pub fn of_profiles(alloc: Global, facts: &Facts) -> Result<Classing, AllocError> {
         let mut classes = Vec::new(alloc);
         for profile in 0..facts.first_kinds().len() {

@@ -15,7 +15,6 @@ pub struct Facts {
     first_kinds: Vec<DayKind>,
 }
 
-/// The first kind of each profile.
 fn first_kinds(
     alloc: Global,
     kinds: &[DayKind],
@@ -30,7 +29,6 @@ fn first_kinds(
     Ok(first)
 }
 
-/// The jobs of the crontab that are due on days of each of these kinds.
 fn due_lists(alloc: Global, plan: &Plan, kinds: &[DayKind]) -> Result<Vec<Vec<u16>>, AllocError> {
     let mut lists = Vec::new(alloc);
     for kind in kinds {
@@ -48,7 +46,7 @@ fn due_lists(alloc: Global, plan: &Plan, kinds: &[DayKind]) -> Result<Vec<Vec<u1
 }
 
 impl Facts {
-    /// What there is to know of this plan. The only error is want of memory.
+    /// Returns what there is to know of a plan. The only error is out of memory.
     pub fn of(alloc: Global, plan: &Plan) -> Result<Facts, AllocError> {
         let tasks = tasks_of(alloc, plan)?;
         let kinds = kinds::kinds(alloc)?;
@@ -66,33 +64,34 @@ impl Facts {
         })
     }
 
-    /// What each job does, by number.
+    /// Returns what each job does, by number.
     pub fn tasks(&self) -> &[Task] {
         self.tasks.as_slice()
     }
 
-    /// All kinds of days, by number.
+    /// Returns all kinds of days, by number.
     pub fn kinds(&self) -> &[DayKind] {
         self.kinds.as_slice()
     }
 
-    /// The numbers of the two kinds that can come after each kind, by number; twice the same where there is one alone.
+    /// Returns the numbers of the two kinds that can come after each kind, by number; twice the
+    /// same if only one can.
     pub fn successors(&self) -> &[[u16; 2]] {
         self.successors.as_slice()
     }
 
-    /// The profile of each kind, by number: the same where the same jobs of the crontab are due. They are numbered from 0, as
-    /// they come first.
+    /// Returns the profile of each kind, by number. Kinds have the same profile exactly if the same
+    /// cron jobs are due on them. Profiles are numbered from 0, in order of their first kind.
     pub fn profiles(&self) -> &[u16] {
         self.profiles.as_slice()
     }
 
-    /// The jobs of the crontab that are due on days of each profile, rising.
+    /// Returns the cron jobs that are due on days of each profile, rising.
     pub fn due(&self) -> &[Vec<u16>] {
         self.due.as_slice()
     }
 
-    /// The first kind of each profile.
+    /// Returns the first kind of each profile.
     pub fn first_kinds(&self) -> &[DayKind] {
         self.first_kinds.as_slice()
     }

@@ -1,11 +1,9 @@
-//! The kinds of days by number, and which of them the same jobs are due on.
 use crate::task::schedule_of;
 use cs_civil::{DayKind, all_kinds, kind_number, next_kinds};
 use cs_plan::Plan;
 use cs_schedule::Schedule;
 use std::alloc::{AllocError, Global};
 
-/// All kinds of days, by number.
 pub(crate) fn kinds(alloc: Global) -> Result<Vec<DayKind>, AllocError> {
     let mut kinds = Vec::new(alloc);
     for kind in all_kinds() {
@@ -14,7 +12,6 @@ pub(crate) fn kinds(alloc: Global) -> Result<Vec<DayKind>, AllocError> {
     Ok(kinds)
 }
 
-/// The numbers of the kinds that can come next after each, by number; the last of them twice where there is one alone.
 pub(crate) fn successors(alloc: Global, kinds: &[DayKind]) -> Result<Vec<[u16; 2]>, AllocError> {
     let mut successors = Vec::new(alloc);
     for kind in kinds {
@@ -31,8 +28,9 @@ pub(crate) fn successors(alloc: Global, kinds: &[DayKind]) -> Result<Vec<[u16; 2
     Ok(successors)
 }
 
-/// The sorts of days, told apart by whether this job is due too: each sort of before that a kind had, and whether the job is due on
-/// its days, is one, numbered as they come first.
+/// Splits the sorts of days by whether this job is due: kinds get one sort exactly if they had one,
+/// and the job is due on both or on neither. Sorts are numbered from 0, in order of their first
+/// kind.
 fn told_apart(
     alloc: Global,
     kinds: &[DayKind],
@@ -60,8 +58,6 @@ fn told_apart(
     Ok(finer)
 }
 
-/// The profile of each kind, by number: two kinds have the same exactly where the same jobs of the crontab are due on their
-/// days. They are numbered from 0, as they come first.
 pub(crate) fn profiles(
     alloc: Global,
     plan: &Plan,

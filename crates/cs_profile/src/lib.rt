@@ -1,5 +1,6 @@
-//! What the maker reads off a plan once: what its jobs do, on which days the same of them are due, and the classes of a
-//! certificate to be. Nothing trusts it, so it promises nothing but that it returns.
+//! Reads off a plan what the maker needs: each job's times, and which days have the same jobs due.
+//!
+//! Nothing trusts it, so it promises only to return.
 #![tactic(auto)]
 
 mod calendar;

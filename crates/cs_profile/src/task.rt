@@ -7,7 +7,7 @@ use std::alloc::{AllocError, Global};
 /// What a job of a plan does, as the maker sees it.
 #[derive(Drop)]
 pub struct Task {
-    /// Whether it is of the crontab; else it is of the anacrontab, and catches up.
+    /// Whether it is a cron job; else it is an anacron job, and catches up.
     pub is_cron: bool,
     pub mode: Mode,
     /// The number of its group among the plan's, if it belongs to one.
@@ -17,20 +17,19 @@ pub struct Task {
     pub weight: u8,
     /// The longest time of a run, in minutes.
     pub max: u16,
-    /// For how many minutes it is put off in its pass; 0 for a job of the crontab.
+    /// For how many minutes it is put off in its pass; 0 for a cron job.
     pub delay: u32,
-    /// At which minutes it is due on each of its days, rising; none for a job of the anacrontab.
+    /// At which minutes it is due on each of its days, rising. An anacron job has none.
     pub minutes: Vec<u16>,
 }
 
 impl Task {
-    /// Whether it is of mode try: a run that finds its lock held just doesn't start.
+    /// Returns whether it is of mode try: a run that finds its lock held doesn't start.
     pub fn is_try(&self) -> bool {
         self.mode == Mode::Try
     }
 }
 
-/// The schedule of the job with this number, where it is of the crontab.
 pub(crate) fn schedule_of(plan: &Plan, number: usize) -> Option<&Schedule> {
     match plan.crontab().lines().get(number)?.when() {
         When::At(schedule) => Some(schedule),
@@ -38,7 +37,6 @@ pub(crate) fn schedule_of(plan: &Plan, number: usize) -> Option<&Schedule> {
     }
 }
 
-/// The minutes at which the job is due on each of its days.
 fn minutes_of(alloc: Global, plan: &Plan, number: usize) -> Result<Vec<u16>, AllocError> {
     let mut minutes = Vec::new(alloc);
     if let Some(schedule) = schedule_of(plan, number) {
@@ -49,7 +47,6 @@ fn minutes_of(alloc: Global, plan: &Plan, number: usize) -> Result<Vec<u16>, All
     Ok(minutes)
 }
 
-/// What the jobs of a plan do, by number.
 pub(crate) fn tasks_of(alloc: Global, plan: &Plan) -> Result<Vec<Task>, AllocError> {
     let mut tasks = Vec::new(alloc);
     for (number, job) in plan.jobs().iter().enumerate() {

@@ -79,7 +79,6 @@ module _ (d : Declared) (distinct : AllPairs (λ x y. x.identifier ≢ y.identif
       by_kind true e told = says_end_of_command j t told k
       by_kind false e told = says_end_of_job j t (anacron_else d j h e) k
 
-  -- the line of an event that can be named is read as it
   pub says : (e : Event) → is_nameable_event d e ≡ true → tells_event d e ≡ true → Says d (event_text d e) (Happens e)
   says (Minute t) h told = (forms.Minute (minute_text t), (refl, moment_is t), (t, 0, civil_is t h, tt, refl))
   says (Begin j) h told = says_begin j told

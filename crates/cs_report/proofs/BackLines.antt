@@ -68,7 +68,6 @@ module _ (d : Declared) (distinct : AllPairs (λ x y. x.identifier ≢ y.identif
       let s = says d distinct e h told in
       behind_again d o days before n (event_text d e) s.0 (Happens e) s.1 s.2 (event_placed d o days before s.0 e s.2)
 
-  -- the lines of events are read one after the other
   pub events_read : (n : ℕ) (o : ℕ × Bool) (days : List (Option ℕ)) (before : List (ℕ × Event)) (es : List Event) → list_all (is_nameable_event d) es ≡ true → list_all (tells_event d) es ≡ true
       → lines_from d n (behind o days before) (map (event_text d) es) ≡ Ok (behind o days (before ++ numbered_from n es))
   events_read n o days before [] h told = is_done d n (behind o days before) ∙ ap (λ (es : List (ℕ × Event)). Ok (behind o days es)) (sym (append-nil before))
@@ -109,7 +108,6 @@ module _ (d : Declared) where
   event_inside Down h told = refl
   event_inside (Up t) h told = moment_inside t
 
-  -- the text of events falls into their lines
   pub event_lines : (es : List Event) → list_all (is_nameable_event d) es ≡ true → list_all (tells_event d) es ≡ true → lines_of (flat_map (event_line d) es) ≡ map (event_text d) es
   event_lines [] h told = lines_of_nothing
   event_lines (e ∷ es) h told =

@@ -16,7 +16,6 @@ no_space (b ∷ bs) h =
 pub word_of : (text : List ℕ) → text ≢ [] → list_all is_date_byte text ≡ true → IsWord text
 word_of text some h = (no_space text h, some)
 
--- the text of a minute is two words, that of a day is one
 pub moment_is : (t : ℕ) → IsMoment (minute_text t)
 moment_is t =
     let d : CivilDate = date_of (t / 1_440) in

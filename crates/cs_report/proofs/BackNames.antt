@@ -68,7 +68,6 @@ position_is p xs i d below passes before =
     let first : position_or_len p xs ≡ i = position_or_len_is p xs i d (omega (arith, below)) before (λ l. passes) in
     rw (first, lt-ltb i (length xs) below) refl
 
--- the job of the line of a command
 pub job_back : (d : Declared) (j : ℕ) → AllPairs (λ x y. x.number < y.number) d.crontab.lines → j < crons d → (command_of d j).number < 4_294_967_296 → job_on d (command_of d j).number ≡ Some j
 unfolding job_on
 job_back d j rising below small =
@@ -84,7 +83,6 @@ command_told d j line rising is at small =
     let fits : (command_of d j).number < 4_294_967_296 = omega (arith, ap (λ (l : CommandLine). l.number) same, small) in
     rw (job_back d j rising below fits) (eq-eqb j j refl)
 
--- it names that job
 pub told_back : (d : Declared) (j : ℕ) → tells_command d j ≡ true → job_on d (command_of d j).number ≡ Some j
 unfolding tells_command
 told_back d j = found (job_on d (command_of d j).number)
@@ -93,7 +91,6 @@ told_back d j = found (job_on d (command_of d j).number)
     found None is = absurd cc
     found (Some i) is = ap (λ (n : ℕ). Some n) (eqb-true i j is)
 
--- and it fits 32 bits
 pub told_small : (d : Declared) (j : ℕ) → tells_command d j ≡ true → (command_of d j).number < 4_294_967_296
 unfolding tells_command job_on
 told_small d j = by_size (nat_lt (command_of d j).number 4_294_967_296) refl
@@ -112,7 +109,6 @@ not_same xs ys h = by_test (bytes_eq xs ys) refl
 pub same_bytes : (xs : List ℕ) → bytes_eq xs xs ≡ true
 same_bytes xs = (bytes_eq-Decides xs xs).1 refl
 
--- the place of a job's identifier
 pub place_back : (d : Declared) (i : ℕ) → AllPairs (λ x y. x.identifier ≢ y.identifier) d.anacrontab.lines → i < length d.anacrontab.lines → place_of d (get_or d.anacrontab.lines i no_line).identifier ≡ Some i
 unfolding place_of
 place_back d i distinct below =

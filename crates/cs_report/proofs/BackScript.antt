@@ -97,6 +97,5 @@ module _ (d : Declared) (distinct : AllPairs (λ x y. x.identifier ≢ y.identif
   unfolding script_of numbered_script_of
   script_back short = rw (le-ltb MAX_SCRIPT (length (script_text d s)) short, text_rows, rows_read, unnumbered first_event s.events) refl
 
-  -- the text means the script
   pub reads_back : length (script_text d s) ≤ MAX_SCRIPT → MeansPlain d (script_text d s) (Ok s)
   reads_back short = plain_means d (script_text d s) (Ok s) (script_back short)

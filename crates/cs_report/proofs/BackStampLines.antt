@@ -17,7 +17,6 @@ use Rattle.cs_report.proofs.Loop.{goes_on}
 use Rattle.cs_report.proofs.BackNames.{place_back}
 use Rattle.cs_report.proofs.BackStamps.{reading, stamp_text, taken_stamp}
 
--- the lines of stamps, without their newlines
 abbrev pub stamp_texts : List JobLine → List (Option ℕ) → List (List ℕ)
 stamp_texts [] stamps = []
 stamp_texts (line ∷ lines) [] = []

@@ -16,7 +16,6 @@ use Rattle.cs_report.proofs.Told.{stamp_placed}
 abbrev pub reading : ℕ × Bool → List (Option ℕ) → PartialScript
 reading o stamps = behind o stamps []
 
--- the line of a stamp, without its newline
 abbrev pub stamp_text : List ℕ → ℕ → List ℕ
 stamp_text identifier day = codes "stamp " ++ (identifier ++ on_day day)
 

@@ -16,7 +16,6 @@ use Rattle.cs_report.proofs.BackMoments.{moment_is}
 use Rattle.cs_report.proofs.BackLines.{joined, moment_inside}
 use Rattle.cs_report.proofs.Opened.{started, first_again}
 
--- the line of a start, without its newline
 abbrev pub start_text : ℕ → Bool → List ℕ
 start_text t up = codes "start" ++ 32 ∷ (minute_text t ++ side up)
 
@@ -37,6 +36,5 @@ start_end start rest = by_side start.up refl
     by_side true e = rw e refl
     by_side false e = rw e refl
 
--- the first line of a script's text
 pub start_first : (start : Opening) (rest : List ℕ) → lines_of (start_line start ++ rest) ≡ start_text start.now start.up ∷ lines_of rest
 start_first start rest = ap lines_of (start_end start rest) ∙ line_of (start_text start.now start.up) rest (start_inside start.now start.up)

@@ -12,7 +12,6 @@ use Rattle.cs_report.specs.Grammar.{is_word_byte}
 abbrev is_space : ℕ → Bool
 is_space b = b == 32
 
--- the text before the first space, and the rest
 before_space : (xs : List ℕ) → front is_word_byte xs ≡ take (position_or_len is_space xs) xs
 unfolding front
 before_space [] = refl

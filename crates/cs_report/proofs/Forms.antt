@@ -111,7 +111,6 @@ unfolding is_moment
 moment_again text (date, time, is, first, second) =
     ap (λ (l : List ℕ). is_word_behind (first_word l)) is ∙ rw (word_again date time first) (is_word_again time second)
 
--- a number is a word
 no_digit_is_space : (b : ℕ) → is_digit b ≡ true → is_word_byte b ≡ true
 no_digit_is_space b h = grind (arith, nat_tests)
 
@@ -331,7 +330,6 @@ form_takes line form e =
       | inr e ↦ let f = first_takes line (λ parts. form_behind parts.0 parts.1) form e in behind_takes f.0.0 f.0.1 line form f.1.0 f.2
     ]
 
--- a line that has two words or more is not `down`
 longer : (verb text : List ℕ) → bytes_eq (verb ++ 32 ∷ text) (codes "down") ≡ false
 longer verb text = false_from_ne_true (bytes_eq (verb ++ 32 ∷ text) (codes "down")) (λ e. true_false (sym (no_space (same_text (verb ++ 32 ∷ text) (codes "down") e))))
   where
@@ -371,7 +369,6 @@ form_read (EndJob identifier moment) (i, m) =
 pub form_again : (line : List ℕ) (form : Form) → IsForm line form → form_of line ≡ Some form
 form_again line form (is, whole) = ap form_of is ∙ form_read form whole
 
--- a line without a form is written as none
 pub no_form : (line : List ℕ) → form_of line ≡ None → (form : Form) → IsForm line form → ⊥
 no_form line none form is = some_none form (sym (form_again line form is) ∙ none)
   where

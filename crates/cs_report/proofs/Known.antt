@@ -14,7 +14,6 @@ or_none : (a : Bool) → (a || false) ≡ a
 or_none true = refl
 or_none false = refl
 
--- without a space the list is one word
 one_word : (xs : List ℕ) → length xs ≤ position_or_len is_space xs → slice_split is_space xs ≡ xs ∷ []
 one_word [] past = refl
 one_word (x ∷ xs) past = by_test (x == 32) past (one_word xs)

@@ -63,7 +63,6 @@ day_written t text ge le is =
     ap (from_on 1) (written day_text text (last_day + 1) t (omega (arith, le)) (sym is) (λ s h. one_day text s t is (sym h)))
     ∙ from_low 1 t ge
 
--- the text of a minute is that of a date and a minute of a day
 is_minute_text : (t : ℕ) → t ≤ last_minute → IsMinuteText (minute_text t)
 is_minute_text t le =
     let day : t / 1_440 ≤ last_day = omega (arith, le) in

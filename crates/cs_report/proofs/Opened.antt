@@ -39,7 +39,6 @@ module _ (d : Declared) where
   abbrev jobs : ℕ
   jobs = length d.anacrontab.lines
 
-  -- no form is misplaced there
   free : (form : Form) → is_misplaced d (nothing d) form ≡ false
   unfolding is_too_late
   free (Start moment up) = refl
@@ -99,7 +98,6 @@ module _ (d : Declared) where
   no_start (EndLine number moment) t up (s, j, date, name, is) = absurd cc
   no_start (EndJob identifier moment) t up (s, j, date, name, is) = absurd cc
 
-  -- the content of a start is a start
   is_start_of : (form : Form) (x : Entry) → IsStart form → FormSays d form x → is_start x ≡ true
   is_start_of form x (moment, up, same) (t, j, date, name, is) = rw (is, same) refl
 

@@ -63,7 +63,6 @@ not_ignored line e ignored = true_false (sym (ignored_again line ignored) ∙ e)
     true_false : true ≡ false → ⊥
     true_false e = cc
 
--- no form begins with `#`
 form_counts : (form : Form) → is_ignored (form_text form) ≡ false
 form_counts (Start moment up) = refl
 form_counts (Stamp identifier date) = refl
@@ -237,7 +236,6 @@ module _ (d : Declared) (o : ℕ × Bool) (days : List (Option ℕ)) (events : L
   behind_stops n line fault (inr (form, is, inl (misplaced, same))) = rw (counts line form is, form_again line form is, misplaced_again form misplaced, same) refl
   behind_stops n line fault (inr (form, is, inr (not_so, fails))) = rw (counts line form is, form_again line form is, placed form not_so, entry_fails_again d form fault fails) refl
 
--- an ignored line changes nothing
 pub ignored_again_here : (d : Declared) (n : ℕ) (draft : PartialScript) (line : List ℕ) → IsIgnored line → taken d n draft line ≡ Ok draft
 unfolding taken
 ignored_again_here d n draft line is = rw (ignored_again line is) refl

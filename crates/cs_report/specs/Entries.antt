@@ -56,7 +56,7 @@ entry_of d form = do
   j ← or_fault UnknownName (name_of d form)
   Ok (entry form t j)
 
--- a start from 1970-01-04 on
+-- a start is from 1970-01-04 on
 abbrev pub IsLateEnough : Entry → Type 0
 IsLateEnough (Starts t up) = first_start ≤ t
 IsLateEnough (Stamps place day) = Unit {0}

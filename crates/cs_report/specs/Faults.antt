@@ -15,7 +15,7 @@ use Rattle.cs_report.specs.declared.script_fault.ScriptError.{ScriptError}
 use Rattle.cs_report.specs.declared.script_fault.ScriptError.TheVariants.{At, OutOfMemory}
 use Rattle.cs_report.specs.declared.script.TheConstants.{MAX_SCRIPT}
 
--- The date is none, or the name is nobody's where the date is good.
+-- There is no such date; or the date is good, and no job has the name.
 abbrev pub FormFails : Declared → Form → ScriptFault → Type 0
 FormFails d form fault =
     (((t : ℕ) → HasDate form t → ⊥) × (fault ≡ BadDate))
@@ -52,7 +52,7 @@ FailsBehind d script form fault =
     (IsMisplaced d script form × (fault ≡ BadLine))
     ⊎ (¬ (IsMisplaced d script form) × FormFails d form fault)
 
--- no line of a script
+-- a line that isn't ignored, and has no form
 abbrev pub IsNoLine : List ℕ → Type 0
 IsNoLine line = ¬ (IsIgnored line) × ((form : Form) → IsForm line form → ⊥)
 
@@ -82,7 +82,7 @@ pub record IsFirstFault (d : Declared) (text : List ℕ) (number : ℕ) (fault :
   pub beginning : IsBeginning d said
   pub stands : LineFails d said line fault
 
--- No line counts.
+-- all lines are ignored
 pub record IsEmpty (d : Declared) (text : List ℕ) : Type 0 where
   pub short : length text ≤ MAX_SCRIPT
   pub none : AreLines d 1 (lines_of text) []

@@ -116,7 +116,6 @@ HasName d (EndJob identifier moment) j = job_named d identifier ≡ Some j
 
 -- ---- lines
 
--- the content of one line
 pub data Entry : Type 0 where
   Starts : (t : ℕ) → (up : Bool) → Entry
   Stamps : (place day : ℕ) → Entry
@@ -167,7 +166,7 @@ pub record StampLine : Type 0 where
   pub place : ℕ
   pub day : ℕ
 
--- no stamp for any of so many jobs, and then these
+-- no stamp for any of this many jobs, and then these
 abbrev pub days_of : ℕ → List StampLine → List (Option ℕ)
 days_of jobs stamps = fold (λ days s. set days s.place (Some s.day)) (replicate jobs None) stamps
 
@@ -181,7 +180,6 @@ pub record AreEntriesOf (d : Declared) (said : List (ℕ × Entry)) (script : Nu
   pub once : AllPairs (λ x y. x.place ≢ y.place) stamps
   pub days : script.start.stamps ≡ days_of (length d.anacrontab.lines) stamps
 
--- the text is written as this script
 pub record IsScript (d : Declared) (text : List ℕ) (script : Numbered) : Type 0 where
   pub short : length text ≤ MAX_SCRIPT
   pub said : List (ℕ × Entry)

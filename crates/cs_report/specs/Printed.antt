@@ -3,7 +3,6 @@ use Rattle.std.specs.Prelude.{ℕ, List, codes}
 use Rattle.cs_report.specs.declared.script_fault.ScriptFault.{ScriptFault}
 use Rattle.cs_report.specs.declared.script_fault.ScriptFault.TheVariants as faults
 
--- number and name
 abbrev pub fault_text : ScriptFault → List ℕ
 fault_text faults.TooLong = codes "1 TooLong"
 fault_text faults.BadLine = codes "2 BadLine"

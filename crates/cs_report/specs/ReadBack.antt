@@ -1,4 +1,4 @@
--- Which jobs can be told apart in a script by their line numbers.
+-- Which jobs a script names by the numbers of their lines.
 use Rattle.std.specs.Prelude.{ℕ, Bool, true, false, ◌==◌, nat_lt, if◌then◌else◌, Option, Some, None}
 use Rattle.cs_plan.specs.Plan.{Declared, command_of, crons}
 use Rattle.cs_history.specs.declared.event.Event.{Event}

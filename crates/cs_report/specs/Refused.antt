@@ -31,13 +31,13 @@ abbrev pub start_of : ℕ → Window → ℕ
 start_of at w =
     min (max ((1440 * (at / 1440) + w.from) - 1440 * w.day_back) first_minute) last_minute
 
--- `line N due ` or `catch-up of ID from `
 unfoldable pub from_name : Declared → ℕ → List ℕ
 from_name d j = codes " of " ++ (identifier_of d j ++ codes " from ")
 
 unfoldable pub catch_up_name : Declared → ℕ → List ℕ
 catch_up_name d j = codes "catch-up" ++ from_name d j
 
+-- `line N due ` or `catch-up of ID from `
 abbrev pub window_name : Declared → ℕ → List ℕ
 window_name d j = if nat_lt j (crons d) then due_name d j else catch_up_name d j
 
@@ -45,15 +45,12 @@ window_name d j = if nat_lt j (crons d) then due_name d j else catch_up_name d j
 unfoldable pub window_text : Declared → ℕ → Window → List ℕ
 window_text d at w = window_name d w.job ++ minute_text (start_of at w)
 
--- the name of a group
 abbrev pub group_name : Declared → ℕ → List ℕ
 group_name d g = (slice_index_or d.groups g no_group).name
 
--- two windows
 unfoldable pub both_text : Declared → ℕ → Window → Window → List ℕ
 both_text d at one other = window_text d at one ++ (codes " and " ++ window_text d at other)
 
--- the rule by its number and name
 abbrev pub rule_text : Fault → List ℕ
 rule_text (ClassNotDue kind) = codes "refused 1 ClassNotDue: "
 rule_text (Missing kinds) = codes "refused 2 MissingPair: "
@@ -80,7 +77,6 @@ collision_text d at one other = both_text d at one other ++ (codes " meet" ++ at
 unfoldable pub overload_text : Declared → ℕ → ℕ → List ℕ
 overload_text d at load = decimal load ++ (codes " of " ++ (decimal d.capacity ++ at_text at))
 
--- its place
 abbrev pub place_text : Declared → Fault → List ℕ
 place_text d (ClassNotDue kind) = kind_text kind
 place_text d (Missing kinds) = kinds_text kinds
@@ -91,6 +87,5 @@ place_text d (Collision at one other) = collision_text d at one other
 place_text d (OverCapacity at load) = overload_text d at load
 place_text d (SkipBlocked at skip other) = both_text d at skip other
 
--- the line of a fault
 unfoldable pub fault_text : Declared → Fault → List ℕ
 fault_text d fault = rule_text fault ++ place_text d fault

@@ -25,7 +25,6 @@ taken_text (Ended in_time) = ended_text in_time
 taken_text Went = codes "went"
 taken_text Came = codes "came"
 
--- the text of a refusal, or `out of memory`
 abbrev pub refused_text : Refusal → List ℕ
 refused_text OutOfMemory = codes "out of memory"
 refused_text NotUp = codes "refused " ++ refusal_text NotUp

@@ -18,7 +18,6 @@ use Rattle.cs_report.specs.declared.script_fault.ScriptError.{ScriptError}
 use Rattle.cs_report.specs.declared.script_fault.ScriptError.TheVariants.{At, OutOfMemory}
 use Rattle.cs_report.specs.declared.script.TheConstants.{MAX_SCRIPT}
 
--- a fault, and the number of its line
 abbrev pub Fault : Type 0
 Fault = ℕ × ScriptFault
 

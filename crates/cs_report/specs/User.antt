@@ -1,4 +1,4 @@
--- Commands that seem to stand behind a user, as in tables with a user column (this profile).
+-- Commands that seem to follow a user, as in tables with a user column (this profile).
 use Rattle.std.specs.Prelude.{ℕ, ◌==◌, nat_le, not, Bool, false, ◌&&◌, ◌||◌, List, [], ◌∷◌, codes}
 use Rattle.std.specs.Char.{is_ascii_lowercase}
 use Rattle.std.specs.List.{list_all, list_any, slice_split}
@@ -7,8 +7,8 @@ use Rattle.cs_crontab.specs.Crontab.{CommandLine}
 use Rattle.cs_report.specs.declared.user.TheConstants.{SYSTEM_USERS, USUAL_WORDS}
 use Rattle.cs_table.specs.Text.{after, front, is_blank, is_digit, is_solid}
 
--- users that systems and their packages have, and words with which commands usually begin: the lists
--- are the program's own
+-- users that systems and their packages have, and words with which commands usually begin: the
+-- lists are the program's own
 unfoldable pub system_users : List ℕ
 system_users = SYSTEM_USERS.now
 
@@ -42,7 +42,7 @@ abbrev pub is_sign : List ℕ → Bool
 is_sign [] = false
 is_sign (b ∷ bs) = b == 36 || b == 40 || b == 47 || b == 91 || b == 123 || b == 126
 
--- The word sets a variable: it begins with a capital letter, and has a `=` behind it.
+-- The word sets a variable: it begins with a capital letter, and has a `=` after it.
 abbrev pub is_assignment : List ℕ → Bool
 is_assignment [] = false
 is_assignment (b ∷ bs) = nat_le 65 b && nat_le b 90 && list_any (λ b. b == 61) bs
@@ -57,7 +57,7 @@ first_word text = front is_solid text
 abbrev pub second_word : List ℕ → List ℕ
 second_word text = front is_solid (after is_blank (after is_solid text))
 
--- a command on another line that has the same first word, and behind it a command too
+-- a command on another line with the same first word, and a command after it too
 abbrev pub is_alike : CommandLine → CommandLine → Bool
 is_alike line other = not (other.number == line.number)
     && bytes_eq (first_word other.command) (first_word line.command)

@@ -19,7 +19,6 @@ is_unheeded setting = bytes_eq setting.name (codes "CRON_TZ")
     || (bytes_eq setting.name (codes "RANDOM_DELAY")
     || bytes_eq setting.name (codes "START_HOURS_RANGE"))
 
--- `warning: NAME on line N of the TABLE has no effect` and a newline
 abbrev pub warning : List ℕ → SettingLine → List ℕ
 warning table setting =
     codes "warning: "
@@ -27,19 +26,17 @@ warning table setting =
     ++ (codes " on line "
     ++ (decimal setting.number ++ (codes " of the " ++ (table ++ codes " has no effect\n")))))
 
--- such a line for each of those settings, in their order
+-- the warnings of those settings, in their order
 unfoldable pub warnings_of : List ℕ → List SettingLine → List ℕ
 warnings_of table settings = flat_map (warning table) (filter is_unheeded settings)
 
--- `warning: the command on line N of the crontab begins with NAME, as in a table with a user column:
--- see cronsafe gather` and a newline
 abbrev pub user_warning : CommandLine → List ℕ
 user_warning line = codes "warning: the command on line "
     ++ (decimal line.number
     ++ (codes " of the crontab begins with "
     ++ (front is_solid line.command ++ codes ", as in a table with a user column: see cronsafe gather\n")))
 
--- such a line for a command that seems to stand behind a user, if there is one: in tables with a user
+-- the warning of a command that seems to follow a user, if there is one: in tables with a user
 -- column, as /etc/crontab and those of /etc/cron.d, a user stands before each command (crontab(5))
 abbrev pub user_warning_of : Option CommandLine → List ℕ
 user_warning_of None = []
@@ -50,48 +47,40 @@ abbrev pub begins_with_number : CommandLine → Bool
 begins_with_number line =
     not (length (front is_solid line.command) == 0) && list_all is_digit (front is_solid line.command)
 
--- `warning: the command on line N of the crontab begins with NUMBER, as in an anacrontab: see
--- --anacrontab` and a newline
 abbrev pub number_warning : CommandLine → List ℕ
 number_warning line = codes "warning: the command on line "
     ++ (decimal line.number
     ++ (codes " of the crontab begins with "
     ++ (front is_solid line.command ++ codes ", as in an anacrontab: see --anacrontab\n")))
 
--- such a line for a command that begins with a number, if there is one
 abbrev pub number_warning_of : Option CommandLine → List ℕ
 number_warning_of None = []
 number_warning_of (Some line) = number_warning line
 
--- those of the crontab's settings, that of the first command that seems to stand behind a user, that
--- of the first that begins with a number, and then those of the anacrontab's settings
+-- the warnings of the crontab's settings, that of the first command that seems to follow a user,
+-- that of the first that begins with a number, and then those of the anacrontab's settings
 abbrev pub warnings : Table → JobTable → List ℕ
 warnings crontab anacrontab = warnings_of (codes "crontab") crontab.settings
     ++ (user_warning_of (find (is_behind_user crontab.lines) crontab.lines)
     ++ (number_warning_of (find begins_with_number crontab.lines)
     ++ warnings_of (codes "anacrontab") anacrontab.settings))
 
--- `note: line N is left out of the plan` and a newline
 unfoldable pub left_out_note : ℕ → List ℕ
 left_out_note number =
     codes "note: line " ++ (decimal number ++ codes " is left out of the plan\n")
 
--- `note: the plan has no job` and a newline, where lines are left out and no job is left
+-- only where lines are left out and no job remains
 abbrev pub no_job_note : List ℕ → ℕ → List ℕ
 no_job_note [] jobs = []
 no_job_note (number ∷ left_out) jobs =
     if jobs == 0 then codes "note: the plan has no job\n" else []
 
--- `note: N jobs without an entry have the default` and a newline, of one `.. 1 job .. has ..`, and
--- nothing where there is none
 abbrev pub default_note : ℕ → List ℕ
 default_note jobs =
     if jobs == 0 then [] else (
     if jobs == 1 then codes "note: 1 job without an entry has the default\n"
     else codes "note: " ++ (decimal jobs ++ codes " jobs without an entry have the default\n"))
 
--- `note: N longest times are a draft's guess` and a newline, of one `.. 1 longest time is ..`, and
--- nothing where there is none
 abbrev pub guess_note : ℕ → List ℕ
 guess_note jobs =
     if jobs == 0 then [] else (
@@ -123,23 +112,19 @@ nothing_text =
 abbrev pub nothing_note : Declared → List ℕ
 nothing_note d = if decides_nothing d then nothing_text else []
 
--- `warning: an object of the declarations has NAME twice, and the last one counts` and a newline, and
--- nothing where none has one
 abbrev pub doubled_warning : Option (List ℕ) → List ℕ
 doubled_warning None = []
 doubled_warning (Some name) = codes "warning: an object of the declarations has "
     ++ (name ++ codes " twice, and the last one counts\n")
 
--- `warning: another line has the command of line N: add "when" to its entry, as cronsafe draft does`
--- and a newline, and nothing where there is none
 abbrev pub untimed_warning : Option ℕ → List ℕ
 untimed_warning None = []
 untimed_warning (Some number) = codes "warning: another line has the command of line "
     ++ (decimal number ++ codes ": add \"when\" to its entry, as cronsafe draft does\n")
 
--- that of a member that stands twice, that of a line that shares its command, those of the lines that a plan leaves out, in their order, that
--- it has no job, how many of its jobs have the default, how many longest times are guesses, and that
--- hardly anything is decided
+-- the notes in their order: a member that stands twice, a line that shares its command, the lines
+-- that the plan leaves out, that it has no job, how many jobs have the default, how many longest
+-- times are guesses, and that hardly anything is decided
 abbrev pub plan_notes : Declared → List ℕ
 plan_notes d = doubled_warning d.doubled
     ++ (untimed_warning d.untimed

@@ -1,4 +1,3 @@
-//! The dates of a script.
 ghost use Rattle.std.specs.Prelude.{◌≡◌};
 ghost use Rattle.cs_report.specs.Dates.{minute_of, day_of};
 

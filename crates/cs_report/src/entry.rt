@@ -20,14 +20,12 @@ use cs_plan::Plan;
 /// The first minute at which a history may start, 1970-01-04 00:00.
 pub(crate) const FIRST_START: u64 = 4_320;
 
-/// The content of a line.
 #[derive(Drop)]
 pub(crate) enum Entry {
-    /// The start: its minute, and whether it is up.
+    /// Its minute, and whether it is up.
     Start(Minute, bool),
-    /// A stamp: the index of its job in the anacrontab, and its day.
+    /// The index of its job in the anacrontab, and its day.
     Stamp(usize, Day),
-    /// An event.
     Event(Event),
 }
 
@@ -63,7 +61,6 @@ fn day_at(date: &[u8]) -> Result<Day, ScriptFault>
     day_of(date).ok_or(ScriptFault::BadDate)
 }
 
-/// The job of the command on that line.
 fn command(plan: &Plan, number: &[u8]) -> Result<u16, ScriptFault>
     ensures { Gives (λ j. j) result (or_fault UnknownName (job_on plan.now (decimal number.now))) }
 {
@@ -76,7 +73,6 @@ fn anacron_job(plan: &Plan, identifier: &[u8]) -> Result<u16, ScriptFault>
     job_named(plan, identifier).ok_or(ScriptFault::UnknownName)
 }
 
-/// Its index in the anacrontab.
 fn place_at(plan: &Plan, identifier: &[u8]) -> Result<usize, ScriptFault>
     ensures { Gives (λ place. place) result
         (or_fault UnknownName (place_of plan.now identifier.now)) }
@@ -84,7 +80,7 @@ fn place_at(plan: &Plan, identifier: &[u8]) -> Result<usize, ScriptFault>
     place_of(plan, identifier).ok_or(ScriptFault::UnknownName)
 }
 
-/// The content of a form under the plan. Its date is checked before its name.
+/// Its date is checked before its name.
 pub(crate) fn entry_of(plan: &Plan, form: Form<'_>) -> Result<Entry, ScriptFault>
     ensures value { Gives entry_seen result (entry_of plan.now (form_seen form.entry)) }
     ensures late { IfOk result (λ x. IsLateEnough (entry_seen x)) }

@@ -7,7 +7,6 @@ ghost use Rattle.cs_report.specs.Seen.{form_seen};
 
 use crate::words::{first_word, is_moment, is_number, is_word};
 
-/// The words of a line: texts of minutes, dates, line numbers and identifiers.
 #[derive(Drop)]
 pub(crate) enum Form<'a> {
     /// `start DT up` or `start DT down`.
@@ -32,7 +31,6 @@ pub(crate) enum Form<'a> {
     EndJob(&'a [u8], &'a [u8]),
 }
 
-/// A start with the text of its minute.
 fn start_at(moment: &[u8], up: bool) -> Option<Form<'_>>
     ensures { option_map form_seen result ≡ start_at moment.now up }
 {
@@ -42,7 +40,6 @@ fn start_at(moment: &[u8], up: bool) -> Option<Form<'_>>
     Some(Form::Start(moment, up))
 }
 
-/// `DT up` or `DT down` after `start`.
 #[tactic(auto, unfolding(crate::specs::Reading::start_form))]
 fn start_form(text: &[u8]) -> Option<Form<'_>>
     ensures { option_map form_seen result ≡ start_form text.now }
@@ -56,7 +53,6 @@ fn start_form(text: &[u8]) -> Option<Form<'_>>
     None
 }
 
-/// `ID YYYY-MM-DD` after `stamp`.
 #[tactic(auto, unfolding(crate::specs::Reading::stamp_form))]
 fn stamp_form(text: &[u8]) -> Option<Form<'_>>
     ensures { option_map form_seen result ≡ stamp_form text.now }
@@ -68,7 +64,6 @@ fn stamp_form(text: &[u8]) -> Option<Form<'_>>
     Some(Form::Stamp(identifier, date))
 }
 
-/// `DT` after `minute`.
 fn minute_form(text: &[u8]) -> Option<Form<'_>>
     ensures { option_map form_seen result ≡ minute_form text.now }
 {
@@ -78,7 +73,6 @@ fn minute_form(text: &[u8]) -> Option<Form<'_>>
     Some(Form::Minute(text))
 }
 
-/// `DT` after `up`.
 fn up_form(text: &[u8]) -> Option<Form<'_>>
     ensures { option_map form_seen result ≡ up_form text.now }
 {
@@ -88,7 +82,6 @@ fn up_form(text: &[u8]) -> Option<Form<'_>>
     Some(Form::Up(text))
 }
 
-/// `line N` after `begin`.
 #[tactic(auto, unfolding(crate::specs::Reading::begin_form))]
 fn begin_form(text: &[u8]) -> Option<Form<'_>>
     ensures { option_map form_seen result ≡ begin_form text.now }
@@ -100,7 +93,6 @@ fn begin_form(text: &[u8]) -> Option<Form<'_>>
     Some(Form::Begin(number))
 }
 
-/// `N DT` after `line`.
 #[tactic(auto, unfolding(crate::specs::Reading::line_run))]
 fn line_run(text: &[u8]) -> Option<(&[u8], &[u8])>
     ensures { option_map (λ run. (run.0.now, run.1.now)) result ≡ line_run text.now }
@@ -112,7 +104,6 @@ fn line_run(text: &[u8]) -> Option<(&[u8], &[u8])>
     Some((number, moment))
 }
 
-/// `ID DT` after `job`.
 #[tactic(auto, unfolding(crate::specs::Reading::job_run))]
 fn job_run(text: &[u8]) -> Option<(&[u8], &[u8])>
     ensures { option_map (λ run. (run.0.now, run.1.now)) result ≡ job_run text.now }
@@ -124,7 +115,6 @@ fn job_run(text: &[u8]) -> Option<(&[u8], &[u8])>
     Some((identifier, moment))
 }
 
-/// `line N DT` after `got`.
 #[tactic(auto, unfolding(crate::specs::Reading::got_form))]
 fn got_form(text: &[u8]) -> Option<Form<'_>>
     ensures { option_map form_seen result ≡ got_form text.now }
@@ -137,7 +127,6 @@ fn got_form(text: &[u8]) -> Option<Form<'_>>
     Some(Form::Got(number, moment))
 }
 
-/// `ID` after `catch`.
 fn catch_form(text: &[u8]) -> Option<Form<'_>>
     ensures { option_map form_seen result ≡ catch_form text.now }
 {
@@ -147,7 +136,6 @@ fn catch_form(text: &[u8]) -> Option<Form<'_>>
     Some(Form::Catch(text))
 }
 
-/// `line N DT` or `job ID DT` after `end`.
 #[tactic(auto, unfolding(crate::specs::Reading::end_form))]
 fn end_form(text: &[u8]) -> Option<Form<'_>>
     ensures { option_map form_seen result ≡ end_form text.now }
@@ -164,7 +152,6 @@ fn end_form(text: &[u8]) -> Option<Form<'_>>
     None
 }
 
-/// A form by its first word and the rest.
 #[tactic(auto, unfolding(crate::specs::Reading::form_behind))]
 fn form_behind<'a>(verb: &[u8], text: &'a [u8]) -> Option<Form<'a>>
     ensures { option_map form_seen result ≡ form_behind verb.now text.now }

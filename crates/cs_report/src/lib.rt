@@ -1,5 +1,4 @@
-//! What is read and printed in words: why a certificate is refused, scripts of events, replies, the
-//! warnings of two tables, and the notes on a plan.
+//! Reads scripts of events, and prints scripts, replies, refusals, warnings and notes.
 #![tactic(auto)]
 
 mod dates;

@@ -1,4 +1,3 @@
-//! Scripts that have a text.
 ghost use Rattle.std.specs.Prelude.{◌≡◌};
 ghost use Rattle.std.specs.List.{list_all};
 ghost use Rattle.cs_history.specs.Step.{is_civil};
@@ -13,7 +12,6 @@ use cs_civil::{Day, Minute};
 use cs_history::{Event, Script};
 use cs_plan::{Plan, identifier_of};
 
-/// Whether the text is one word of a line.
 #[tactic(auto, unfolding(crate::specs::ScriptText::is_name))]
 fn is_name(text: &[u8]) -> bool
     ensures { result ≡ is_name text.now }
@@ -21,14 +19,12 @@ fn is_name(text: &[u8]) -> bool
     is_word(text) && !text.contains(&b'\n')
 }
 
-/// Whether the job is one of the crontab.
 pub(crate) fn is_cron(plan: &Plan, job: u16) -> bool
     ensures { result ≡ is_cron_name plan.now job }
 {
     usize::from(job) < plan.crontab().lines().len()
 }
 
-/// Whether the job is one of the anacrontab, whose identifier is a word.
 #[tactic(auto, unfolding(crate::specs::ScriptText::is_anacron_name))]
 fn is_anacron(plan: &Plan, job: u16) -> bool
     ensures { result ≡ is_anacron_name plan.now job }
@@ -41,14 +37,12 @@ fn is_anacron(plan: &Plan, job: u16) -> bool
     is_name(identifier_of(plan, number))
 }
 
-/// Whether the minute is from 1970-01-02 00:00 to 9999-12-31 23:59.
 fn is_civil(minute: u64) -> bool
     ensures { result ≡ is_civil minute }
 {
     Minute::new(minute).is_some()
 }
 
-/// Whether the event has a job of its kind and minutes in range.
 #[tactic(auto, unfolding(crate::specs::ScriptText::is_job_name))]
 fn is_nameable_event(plan: &Plan, event: Event) -> bool
     ensures { result ≡ is_nameable_event plan.now event }
@@ -99,11 +93,9 @@ fn are_nameable_events(plan: &Plan, events: &[Event]) -> bool
     events.iter().all(|event| is_nameable_event(plan, *event))
 }
 
-/// Checks whether the script has a text: its start is from 1970-01-04 00:00 on; it has a place for
-/// a stamp for each job of the anacrontab, and each stamp is from 1970-01-02 on;
-/// [`Begin`](Event::Begin) and [`Got`](Event::Got) are of jobs of the crontab,
-/// [`Catch`](Event::Catch) of the anacrontab, [`End`](Event::End) of either; and each minute is
-/// from 1970-01-02 00:00 to 9999-12-31 23:59.
+/// Checks whether the script has a text: its start is from 1970-01-04 00:00 on and its other
+/// minutes from 1970-01-02 00:00 to 9999-12-31 23:59, it has a place for a stamp of each job of the
+/// anacrontab, and each event is of a job of its kind.
 #[tactic(auto, unfolding(crate::specs::ScriptText::is_nameable))]
 pub fn is_nameable(plan: &Plan, script: &Script) -> bool
     ensures { result ≡ is_nameable plan.now script.now }

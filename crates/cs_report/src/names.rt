@@ -1,4 +1,3 @@
-//! Jobs by their names in a script.
 ghost use Rattle.std.specs.Prelude.{◌≡◌, ◌==◌, ◌<◌, IfSome, position};
 ghost use Rattle.cs_table.specs.Text.{decimal};
 ghost use Rattle.cs_report.specs.Names.{job_on, job_named, place_of};
@@ -6,7 +5,6 @@ ghost use Rattle.cs_report.specs.Names.{job_on, job_named, place_of};
 use crate::words::number;
 use cs_plan::Plan;
 
-/// The index of the command on that line.
 fn command_on(plan: &Plan, number: u32) -> Option<usize>
     ensures place { result ≡ position (λ line. line.number == number) plan.now.crontab.lines }
     ensures few { IfSome result (λ place. place < 256) }
@@ -17,7 +15,6 @@ fn command_on(plan: &Plan, number: u32) -> Option<usize>
         .position(|line| line.number() == number)
 }
 
-/// The job of the command on the line with that number.
 #[tactic(auto, using(crate::proofs::Lines::job_there, crate::proofs::Lines::no_job_there))]
 pub(crate) fn job_on(plan: &Plan, digits: &[u8]) -> Option<u16>
     ensures { result ≡ job_on plan.now (decimal digits.now) }
@@ -32,7 +29,6 @@ pub(crate) fn job_on(plan: &Plan, digits: &[u8]) -> Option<u16>
     }
 }
 
-/// The index of the identifier among the jobs of the anacrontab.
 #[tactic(auto, unfolding(crate::specs::Names::place_of))]
 pub(crate) fn place_of(plan: &Plan, identifier: &[u8]) -> Option<usize>
     ensures place { result ≡ place_of plan.now identifier.now }

@@ -1,4 +1,3 @@
-//! The lines of a script read so far.
 ghost use Rattle.std.specs.Prelude.{◌≡◌, ◌≤◌, IfOk, replicate, set, None, Some};
 ghost use Rattle.cs_report.specs.Entries.{Gives, IsLateEnough};
 ghost use Rattle.cs_report.specs.Script.{Denotes, is_misplaced, is_too_late, nothing, numbered};
@@ -16,7 +15,8 @@ use cs_plan::Plan;
 use std::alloc::{AllocError, Global};
 use std::marker::Model;
 
-/// The start, once read, the stamps by anacron job, and the events with their line numbers.
+/// The lines of a script read so far: the stamps by job of the anacrontab, and the events with
+/// their line numbers.
 #[derive(Drop)]
 pub(crate) struct PartialScript {
     pub(crate) start: Option<(Minute, bool)>,
@@ -37,7 +37,6 @@ impl Model for PartialScript {
     ghost invariant = { λ a. IfSome a.start (λ opening. first_start ≤ opening.0) };
 }
 
-/// No stamp for any of this many jobs.
 #[tactic(auto, using(crate::proofs::Stamps::one_none_more))]
 fn no_stamps(count: usize) -> ArrayVec<Option<Day>, 64>
     requires { count ≤ 64 }
@@ -61,7 +60,6 @@ impl PartialScript {
         }
     }
 
-    /// Whether it is too late for a stamp of the identifier.
     #[tactic(auto, unfolding(crate::specs::Script::is_too_late))]
     fn is_too_late(&self, plan: &Plan, identifier: &[u8]) -> bool
         ensures { result ≡ is_too_late plan.now self.now identifier.now }
@@ -86,7 +84,6 @@ impl PartialScript {
         }
     }
 
-    /// Whether a form is out of place after those before it.
     fn is_misplaced(&self, plan: &Plan, form: &Form<'_>) -> bool
         ensures { result ≡ is_misplaced plan.now self.now (form_seen form.now) }
     {
@@ -104,7 +101,6 @@ impl PartialScript {
         }
     }
 
-    /// The content of a line after those before it.
     #[tactic(auto, unfolding(crate::specs::Script::said_behind))]
     fn said(&self, plan: &Plan, line: &[u8]) -> Result<Entry, ScriptFault>
         ensures value { Gives entry_seen result (said_behind plan.now self.now line.now) }
@@ -133,7 +129,6 @@ impl PartialScript {
         Ok(())
     }
 
-    /// Takes the line with that number.
     #[tactic(auto, unfolding(crate::specs::Script::taken))]
     pub(crate) fn take(&mut self, plan: &Plan, number: u32, line: &[u8]) -> Result<(), ScriptError>
         ensures { Denotes (λ _. self.new)

@@ -1,4 +1,3 @@
-//! The text of a refusal.
 ghost use Rattle.std.specs.Prelude.{◌≡◌, ◌++◌, IfOk, OnOk, flat_map};
 ghost use Rattle.cs_theorem.specs.Told.{told};
 ghost use Rattle.cs_report.specs.Refused.{at_text, both_text, catch_up_name, collision_text, fault_text, from_name, group_name, kind_text, kinds_text, overload_text, place_text, rise_text, rule_text, start_of, then_text, unlisted_text, window_name, window_text};
@@ -11,7 +10,6 @@ use cs_theorem::CheckFault;
 use cs_windows::Window;
 use std::alloc::{AllocError, Global};
 
-/// Adds `month M day D weekday W`.
 #[tactic(auto, unfolding(crate::specs::Refused::kind_text))]
 fn push_kind(alloc: Global, text: &mut Vec<u8>, kind: DayKind) -> Result<(), AllocError>
     ensures { OnOk result (text.new.items ≡ text.old.items ++ kind_text kind) }
@@ -24,7 +22,6 @@ fn push_kind(alloc: Global, text: &mut Vec<u8>, kind: DayKind) -> Result<(), All
     push_number(alloc, text, u128::from(kind.dow()))
 }
 
-/// Adds the other days, each after ` then `.
 fn push_following(alloc: Global, text: &mut Vec<u8>, kinds: &[DayKind]) -> Result<(), AllocError>
     ensures { OnOk result (text.new.items ≡ text.old.items ++ flat_map then_text kinds.now) }
 {
@@ -35,7 +32,6 @@ fn push_following(alloc: Global, text: &mut Vec<u8>, kinds: &[DayKind]) -> Resul
     Ok(())
 }
 
-/// Adds successive days.
 #[tactic(auto, unfolding(crate::specs::Refused::kinds_text))]
 fn push_kinds(alloc: Global, text: &mut Vec<u8>, kinds: &[DayKind]) -> Result<(), AllocError>
     ensures { OnOk result (text.new.items ≡ text.old.items ++ kinds_text kinds.now) }
@@ -49,7 +45,6 @@ fn push_kinds(alloc: Global, text: &mut Vec<u8>, kinds: &[DayKind]) -> Result<()
     }
 }
 
-/// Adds ` at YYYY-MM-DD HH:MM`.
 #[tactic(auto, unfolding(crate::specs::Refused::at_text))]
 fn push_at(text: &mut Vec<u8>, at: Minute) -> Result<(), AllocError>
     ensures { OnOk result (text.new.items ≡ text.old.items ++ at_text at) }
@@ -58,7 +53,6 @@ fn push_at(text: &mut Vec<u8>, at: Minute) -> Result<(), AllocError>
     text.extend_from_slice(&date_text(at))
 }
 
-/// Adds ` of ID from `.
 #[tactic(auto, unfolding(crate::specs::Refused::from_name))]
 fn push_from(text: &mut Vec<u8>, plan: &Plan, job: usize) -> Result<(), AllocError>
     ensures { OnOk result (text.new.items ≡ text.old.items ++ from_name plan.now job) }
@@ -68,7 +62,6 @@ fn push_from(text: &mut Vec<u8>, plan: &Plan, job: usize) -> Result<(), AllocErr
     text.extend_from_slice(b" from ")
 }
 
-/// Adds `catch-up of ID from `.
 #[tactic(auto, unfolding(crate::specs::Refused::catch_up_name))]
 fn push_catch_up(text: &mut Vec<u8>, plan: &Plan, job: usize) -> Result<(), AllocError>
     ensures { OnOk result (text.new.items ≡ text.old.items ++ catch_up_name plan.now job) }
@@ -77,7 +70,6 @@ fn push_catch_up(text: &mut Vec<u8>, plan: &Plan, job: usize) -> Result<(), Allo
     push_from(text, plan, job)
 }
 
-/// Adds `line N due ` or `catch-up of ID from `.
 fn push_window_name(
     alloc: Global,
     text: &mut Vec<u8>,
@@ -93,7 +85,6 @@ fn push_window_name(
     }
 }
 
-/// The minute at which a window begins, seen from a minute of the day looked at.
 fn start_of(at: Minute, window: &Window) -> Minute
     ensures { result ≡ start_of at window.now }
 {
@@ -103,7 +94,7 @@ fn start_of(at: Minute, window: &Window) -> Minute
     Minute::new(start.max(FIRST_MINUTE).min(LAST_MINUTE)).unwrap()
 }
 
-/// Adds a window: its job and its first minute. The only error is out of memory.
+/// Adds a window: its job and its first minute.
 #[tactic(auto, unfolding(crate::specs::Refused::window_text))]
 pub fn push_window(
     alloc: Global,
@@ -135,7 +126,7 @@ fn push_both(
     push_window(alloc, text, plan, at, other)
 }
 
-/// The name of a group, nothing if there is no such group.
+/// Nothing if there is no such group.
 fn group_name(plan: &Plan, group: usize) -> &[u8]
     ensures { result.now ≡ group_name plan.now group }
 {
@@ -145,7 +136,6 @@ fn group_name(plan: &Plan, group: usize) -> &[u8]
     }
 }
 
-/// Adds where a bound rises.
 #[tactic(auto, unfolding(crate::specs::Refused::rise_text))]
 fn push_rise(text: &mut Vec<u8>, plan: &Plan, group: usize, at: Minute) -> Result<(), AllocError>
     ensures { OnOk result (text.new.items ≡ text.old.items ++ rise_text plan.now group at) }
@@ -156,7 +146,6 @@ fn push_rise(text: &mut Vec<u8>, plan: &Plan, group: usize, at: Minute) -> Resul
     push_at(text, at)
 }
 
-/// Adds which window a leaf doesn't list, and where.
 #[tactic(auto, unfolding(crate::specs::Refused::unlisted_text))]
 fn push_unlisted(
     alloc: Global,
@@ -172,7 +161,6 @@ fn push_unlisted(
     push_at(text, at)
 }
 
-/// Adds which windows collide, and where.
 #[tactic(auto, unfolding(crate::specs::Refused::collision_text))]
 fn push_collision(
     alloc: Global,
@@ -190,7 +178,6 @@ fn push_collision(
     push_at(text, at)
 }
 
-/// Adds which load exceeds the capacity, and where.
 #[tactic(auto, unfolding(crate::specs::Refused::overload_text))]
 fn push_overload(
     alloc: Global,
@@ -207,7 +194,6 @@ fn push_overload(
     push_at(text, at)
 }
 
-/// The rule by its number and name.
 fn rule_text(fault: &CheckFault) -> &'static str
     ensures { result.now ≡ rule_text (told fault.now) }
 {
@@ -259,12 +245,7 @@ fn push_place(
 /// Formats why a certificate is refused, in one line without a newline: the rule by number and
 /// name, then the place.
 ///
-/// 1 `refused 1 ClassNotDue: month M day D weekday W`, 2 `refused 2 MissingPair: ` with such days,
-/// ` then ` between them, 3 `refused 3 BacklogRises: group NAME at DT`, 4 `refused 4 ReachTooShort:
-/// line N`, 5 `refused 5 WindowMissing: WINDOW at DT`, 6 `refused 6 Collision: WINDOW and WINDOW
-/// meet at DT`, 7 `refused 7 OverCapacity: LOAD of CAPACITY at DT`, 8 `refused 8 SkipBlocked:
-/// WINDOW and WINDOW`, the skip job's first. A window is `line N due DT` or `catch-up of ID from
-/// DT`, and DT is `YYYY-MM-DD HH:MM`. The only error is out of memory.
+/// A window is `line N due DT` or `catch-up of ID from DT`, and DT is `YYYY-MM-DD HH:MM`.
 #[tactic(auto, unfolding(crate::specs::Refused::fault_text))]
 pub fn fault_text(alloc: Global, plan: &Plan, fault: &CheckFault) -> Result<Bytes, AllocError>
     ensures { IfOk result (λ text. text ≡ fault_text plan.now (told fault.now)) }

@@ -1,4 +1,3 @@
-//! The texts of replies and refusals.
 ghost use Rattle.std.specs.Prelude.{◌≡◌, ◌++◌, IfOk, OnOk};
 ghost use Rattle.cs_report.specs.Reply.{reply_text, refused_text, taken_text};
 
@@ -43,7 +42,7 @@ fn push_refusal(text: &mut Vec<u8>, refusal: Refusal) -> Result<(), AllocError>
     }
 }
 
-/// Adds the text of an answer, like [`reply_text`]. The only error is out of memory.
+/// Adds the text of an answer, as [`reply_text`] formats it.
 pub fn push_reply(text: &mut Vec<u8>, answer: Result<Reply, Refusal>) -> Result<(), AllocError>
     ensures { OnOk result (text.new.items ≡ text.old.items ++ reply_text answer) }
 {
@@ -53,9 +52,9 @@ pub fn push_reply(text: &mut Vec<u8>, answer: Result<Reply, Refusal>) -> Result<
     }
 }
 
-/// Formats the answer to an event: `clock`, `started`, `waiting`, `skipped`, `ended in time`,
-/// `ended late`, `went` or `came`; a refusal as `refused` with number and name, `refused 4
-/// NotSettled`, or as `out of memory`. There is no newline. The only error is out of memory.
+/// Formats the answer to an event, without a newline: `clock`, `started`, `waiting`, `skipped`,
+/// `ended in time`, `ended late`, `went` or `came`; a refusal as `refused 4 NotSettled`, or as
+/// `out of memory`.
 pub fn reply_text(alloc: Global, answer: Result<Reply, Refusal>) -> Result<Bytes, AllocError>
     ensures { IfOk result (λ text. text ≡ reply_text answer) }
 {

@@ -146,23 +146,14 @@ fn read_plain(alloc: Global, plan: &Plan, bytes: &[u8]) -> Result<Script, Script
     })
 }
 
-/// Reads a script under the plan, or returns its first fault.
-///
-/// Empty lines and lines that begin with `#` are ignored. The first other line is `start DT up` or
-/// `start DT down`, DT being `YYYY-MM-DD HH:MM` from 1970-01-04 00:00 on. `stamp ID YYYY-MM-DD`
-/// comes before any event, each identifier once. The events are `minute DT`, `up DT`, `down`,
-/// `begin line N`, `got line N DT`, `catch ID`, `end line N DT` and `end job ID DT`, where N is the
-/// line number of a command in the crontab and ID an identifier of the anacrontab. Words are
-/// separated by exactly one space.
+/// Reads a script under the plan, or returns its first fault. The help of `replay` has the forms of
+/// its lines.
 ///
 /// In a line the faults come in the order of [`ScriptFault`]'s numbers. A line without fault where
 /// the start is required is [`NoStart`](ScriptFault::NoStart).
 pub fn read_script(alloc: Global, plan: &Plan, bytes: &[u8]) -> Result<Script, ScriptError>
-    // The script that is read is written in the bytes.
     ensures script { IfOk result (λ script. MeansPlain plan.now bytes.now (Ok script)) }
-    // err: the first fault; `OutOfMemory` only if memory runs out
     ensures fault { IfErr result (IsFaultOf plan.now bytes.now) }
-    // The bytes have no other meaning, and it is returned unless memory runs out.
     ensures only { (meaning : PlainMeaning) → MeansPlain plan.now bytes.now meaning
         → Denotes (λ script. script) meaning result }
 {

@@ -13,7 +13,7 @@ pub enum ScriptFault {
     TooLong,
     /// The line has no form of a script, or is a second start, or a stamp late or a second time.
     BadLine,
-    /// A date is none, or out of range.
+    /// A date isn't one, or is out of range.
     BadDate,
     /// The line of that number has no command, or no job has the identifier.
     UnknownName,
@@ -22,7 +22,7 @@ pub enum ScriptFault {
 }
 
 impl ScriptFault {
-    /// Returns its number and name, as printed.
+    /// Returns its number and name.
     pub fn text(self) -> &'static str
         ensures { result.now ≡ fault_text self }
     {

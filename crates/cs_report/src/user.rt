@@ -1,4 +1,3 @@
-//! Commands that seem to stand behind a user.
 ghost use Rattle.std.specs.Prelude.{◌≡◌, ◌==◌, ◌<◌, length, position, IfSome};
 ghost use Rattle.std.specs.List.{find, list_all, list_any};
 ghost use Rattle.std.specs.Option.{option_map};
@@ -61,8 +60,8 @@ fn is_usual_word(word: &[u8]) -> bool
     is_one_of(USUAL_WORDS, word)
 }
 
-/// Whether the word, where a table has the user of a command, is probably the command's own: commands
-/// usually begin with it, and no user of a system has it as its name (this profile).
+/// Whether the word, where a table has the user of a command, is probably the command's own:
+/// commands usually begin with it, and no user of a system has it as its name (this profile).
 pub fn is_no_user(word: &[u8]) -> bool
     ensures { result ≡ is_no_user word.now }
 {
@@ -92,7 +91,6 @@ fn is_name(word: &[u8]) -> bool
     }
 }
 
-/// Whether the word is `_` and a name, as users of Debian's packages are called.
 fn is_package_user(word: &[u8]) -> bool
     ensures { result ≡ is_package_user word.now }
 {
@@ -135,7 +133,6 @@ fn second_word(text: &[u8]) -> &[u8]
     second
 }
 
-/// Whether the other line has the same first word, and a command behind it too.
 fn is_alike(line: &Line, other: &Line) -> bool
     ensures { result ≡ is_alike line.now other.now }
 {
@@ -164,12 +161,8 @@ fn is_behind_user(lines: &[Line], line: &Line) -> bool
             || (is_name(first) && !is_usual_word(first) && has_alike(lines, line)))
 }
 
-/// The first of the lines whose command seems to stand behind a user, as in a table with a user
-/// column (this profile).
-///
-/// The command's first word is `root`. Or its second word begins a command: by a sign of the shell,
-/// a path, a setting or a usual word; and its first word is a user of a system, or `_` and a name, or
-/// a name and no usual word that stands so on another line too.
+/// The first of the lines whose command seems to follow a user, as in a table with a user column
+/// (this profile).
 pub fn first_behind_user(lines: &[Line]) -> Option<&Line>
     ensures { option_map (λ line. line.now) result ≡ find (is_behind_user lines.now) lines.now }
 {

@@ -31,7 +31,6 @@ pub fn is_unheeded(setting: &Setting) -> bool
         || name == b"START_HOURS_RANGE".as_slice()
 }
 
-/// Writes the warning of one setting behind the text.
 fn push_warning(
     alloc: Global,
     text: &mut Vec<u8>,
@@ -49,7 +48,6 @@ fn push_warning(
     text.extend_from_slice(b" has no effect\n")
 }
 
-/// Writes the warnings of a table behind the text.
 fn push_warnings(
     alloc: Global,
     text: &mut Vec<u8>,
@@ -66,7 +64,6 @@ fn push_warnings(
     Ok(())
 }
 
-/// Writes a number between two texts behind the text.
 fn push_numbered(
     alloc: Global,
     text: &mut Vec<u8>,
@@ -82,7 +79,6 @@ fn push_numbered(
     text.extend_from_slice(end)
 }
 
-/// Writes a number and a name between three texts behind the text.
 fn push_named(
     alloc: Global,
     text: &mut Vec<u8>,
@@ -100,7 +96,6 @@ fn push_named(
     text.extend_from_slice(end)
 }
 
-/// Writes the warning of the first command that seems to stand behind a user behind the text.
 fn push_user_warning(alloc: Global, text: &mut Vec<u8>, lines: &[Line]) -> Result<(), AllocError>
     ensures { OnOk result (text.new.items
         ≡ text.old.items ++ user_warning_of (find (is_behind_user lines.now) lines.now)) }
@@ -134,7 +129,6 @@ fn first_with_number(lines: &[Line]) -> Option<&Line>
     lines.iter().find(|line| begins_with_number(line))
 }
 
-/// Writes the warning of a command that begins with a number behind the text.
 fn push_number_warning(alloc: Global, text: &mut Vec<u8>, line: &Line) -> Result<(), AllocError>
     ensures { OnOk result (text.new.items ≡ text.old.items ++ number_warning line.now) }
 {
@@ -150,7 +144,6 @@ fn push_number_warning(alloc: Global, text: &mut Vec<u8>, line: &Line) -> Result
     )
 }
 
-/// Writes the warning of the first such command behind the text.
 fn push_first_number_warning(
     alloc: Global,
     text: &mut Vec<u8>,
@@ -165,18 +158,10 @@ fn push_first_number_warning(
     }
 }
 
-/// A line for each setting that other daemons heed and this profile reads as a plain setting: `CRON_TZ`,
-/// `RANDOM_DELAY` and `START_HOURS_RANGE` of crontab(5) and anacrontab(5); one for a crontab with a
-/// user column, as /etc/crontab and those of /etc/cron.d have it; and one for an anacrontab that reads
-/// as a crontab, where all its periods are `@` words.
-///
-/// A setting's is `warning: CRON_TZ on line 1 of the crontab has no effect`, or `.. of the anacrontab ..`.
-/// The first command that seems to stand behind a user has `warning: the command on line 1 of the
-/// crontab begins with root, as in a table with a user column: see cronsafe gather`
-/// ([`first_behind_user`]), and the first that begins with a number `.. begins with 5, as in an
-/// anacrontab: see --anacrontab`. The settings of the crontab come first, in order of their numbers,
-/// then the commands, then the settings of the anacrontab, each line with a newline. Where there is
-/// nothing to warn of, no text. The only error is want of memory.
+/// The warnings of two tables, a line each: settings that other daemons heed and that have no
+/// effect here, the first command that seems to follow a user, and the first that begins with a
+/// number, as an anacrontab reads as a crontab if all its periods are `@` words. No text if there
+/// is nothing to warn of.
 pub fn warnings(
     alloc: Global,
     crontab: &Crontab,
@@ -192,7 +177,6 @@ pub fn warnings(
     Ok(Bytes::from_vec(text))
 }
 
-/// Writes the note of a line that is left out behind the text.
 #[tactic(auto, unfolding(crate::specs::Warning::left_out_note))]
 fn push_left_out(alloc: Global, text: &mut Vec<u8>, number: u32) -> Result<(), AllocError>
     ensures { OnOk result (text.new.items ≡ text.old.items ++ left_out_note number) }
@@ -206,7 +190,6 @@ fn push_left_out(alloc: Global, text: &mut Vec<u8>, number: u32) -> Result<(), A
     )
 }
 
-/// Writes the note of each line that is left out behind the text.
 fn push_all_left_out(alloc: Global, text: &mut Vec<u8>, numbers: &[u32]) -> Result<(), AllocError>
     ensures { OnOk result (text.new.items
         ≡ text.old.items ++ flat_map left_out_note numbers.now) }
@@ -217,7 +200,6 @@ fn push_all_left_out(alloc: Global, text: &mut Vec<u8>, numbers: &[u32]) -> Resu
     Ok(())
 }
 
-/// Writes behind the text that there is no job, where lines are left out.
 fn push_no_job(text: &mut Vec<u8>, left_out: &[u32], jobs: usize) -> Result<(), AllocError>
     ensures { OnOk result (text.new.items ≡ text.old.items ++ no_job_note left_out.now jobs) }
 {
@@ -227,7 +209,6 @@ fn push_no_job(text: &mut Vec<u8>, left_out: &[u32], jobs: usize) -> Result<(), 
     text.extend_from_slice(b"note: the plan has no job\n")
 }
 
-/// Writes behind the text how many jobs have the default.
 fn push_default(alloc: Global, text: &mut Vec<u8>, jobs: usize) -> Result<(), AllocError>
     ensures { OnOk result (text.new.items ≡ text.old.items ++ default_note jobs) }
 {
@@ -244,7 +225,6 @@ fn push_default(alloc: Global, text: &mut Vec<u8>, jobs: usize) -> Result<(), Al
     }
 }
 
-/// Writes behind the text how many longest times are guesses.
 fn push_guess(alloc: Global, text: &mut Vec<u8>, jobs: usize) -> Result<(), AllocError>
     ensures { OnOk result (text.new.items ≡ text.old.items ++ guess_note jobs) }
 {
@@ -261,14 +241,12 @@ fn push_guess(alloc: Global, text: &mut Vec<u8>, jobs: usize) -> Result<(), Allo
     }
 }
 
-/// How many jobs belong to the group.
 fn count_in(jobs: &[Job], group: u8) -> usize
     ensures { result ≡ count_by (λ job. is_group group job.group) jobs.now }
 {
     jobs.iter().filter(|job| job.group() == Some(group)).count()
 }
 
-/// Whether the group is exclusive, and two jobs belong to it.
 fn is_contended(plan: &Plan, group: Option<u8>) -> bool
     ensures { result ≡ is_contended plan.now group }
 {
@@ -278,14 +256,12 @@ fn is_contended(plan: &Plan, group: Option<u8>) -> bool
     }
 }
 
-/// Whether a job may meet another one of its exclusive group, or be skipped against its promise.
 fn are_at_stake(plan: &Plan) -> bool
     ensures { result ≡ list_any (is_at_stake plan.now) plan.now.jobs }
 {
     plan.jobs().iter().any(|job| is_contended(plan, job.group()) || job.mode().is_skip())
 }
 
-/// Whether all jobs together weigh no more than the capacity.
 fn fit_together(jobs: &[Job], capacity: u8) -> bool
     ensures { result ≡ nat_le (sum_by (λ job. job.weight) jobs.now) capacity }
 {
@@ -299,7 +275,6 @@ fn fit_together(jobs: &[Job], capacity: u8) -> bool
     true
 }
 
-/// Whether `safe` says hardly anything of the plan.
 #[tactic(auto, unfolding(crate::specs::Warning::decides_nothing))]
 fn decides_nothing(plan: &Plan) -> bool
     ensures { result ≡ decides_nothing plan.now }
@@ -307,7 +282,6 @@ fn decides_nothing(plan: &Plan) -> bool
     !are_at_stake(plan) && fit_together(plan.jobs(), plan.capacity())
 }
 
-/// Writes two texts behind the text.
 fn push_both(text: &mut Vec<u8>, front: &[u8], end: &[u8]) -> Result<(), AllocError>
     ensures { OnOk result (text.new.items ≡ text.old.items ++ (front.now ++ end.now)) }
 {
@@ -315,7 +289,6 @@ fn push_both(text: &mut Vec<u8>, front: &[u8], end: &[u8]) -> Result<(), AllocEr
     text.extend_from_slice(end)
 }
 
-/// Writes behind the text that hardly anything is decided.
 #[tactic(auto, unfolding(crate::specs::Warning::nothing_text))]
 fn push_nothing(text: &mut Vec<u8>) -> Result<(), AllocError>
     ensures { OnOk result (text.new.items ≡ text.old.items ++ nothing_text) }
@@ -327,7 +300,6 @@ fn push_nothing(text: &mut Vec<u8>) -> Result<(), AllocError>
     )
 }
 
-/// Writes that where it is so.
 fn push_nothing_note(text: &mut Vec<u8>, plan: &Plan) -> Result<(), AllocError>
     ensures { OnOk result (text.new.items ≡ text.old.items ++ nothing_note plan.now) }
 {
@@ -338,7 +310,6 @@ fn push_nothing_note(text: &mut Vec<u8>, plan: &Plan) -> Result<(), AllocError>
     }
 }
 
-/// Writes the warning of a member that stands twice behind the text.
 fn push_doubled(text: &mut Vec<u8>, doubled: &Option<Bytes>) -> Result<(), AllocError>
     ensures { OnOk result (text.new.items ≡ text.old.items ++ doubled_warning doubled.now) }
 {
@@ -352,7 +323,6 @@ fn push_doubled(text: &mut Vec<u8>, doubled: &Option<Bytes>) -> Result<(), Alloc
     }
 }
 
-/// Writes the warning of a line whose entry tells a command of several behind the text.
 fn push_untimed(alloc: Global, text: &mut Vec<u8>, untimed: Option<u32>) -> Result<(), AllocError>
     ensures { OnOk result (text.new.items ≡ text.old.items ++ untimed_warning untimed) }
 {
@@ -368,18 +338,8 @@ fn push_untimed(alloc: Global, text: &mut Vec<u8>, untimed: Option<u32>) -> Resu
     }
 }
 
-/// First, if an object of the declarations has a member twice, the first such name:
-/// `warning: an object of the declarations has max twice, and the last one counts`. Then, if an entry
-/// tells a command that several lines have, and no schedule, the number of the first such line:
-/// `warning: another line has the command of line 4: add "when" to its entry, as cronsafe draft does`.
-/// Then a line for each line of the crontab that the plan leaves out, in order of their numbers:
-/// `note: line 4 is left out of the plan`. Then, if lines are left out and no job is left in either
-/// table, `note: the plan has no job`. Then, if jobs have the default,
-/// `note: 12 jobs without an entry have the default` or `note: 1 job without an entry has the default`.
-/// Then, if longest times are guesses of a draft, `note: 3 longest times are a draft's guess` or
-/// `note: 1 longest time is a draft's guess`. Then, if no exclusive group has two jobs, no job has mode
-/// skip and all jobs together weigh no more than the capacity, that no two jobs can conflict. Each line
-/// has a newline. The only error is want of memory.
+/// The notes on a plan, a line each: what seems wrong in its declarations, which lines it leaves
+/// out, how many jobs have the default or a draft's guess, and that no two jobs can conflict.
 pub fn plan_notes(alloc: Global, plan: &Plan) -> Result<Bytes, AllocError>
     ensures { IfOk result (λ text. text ≡ plan_notes plan.now) }
 {

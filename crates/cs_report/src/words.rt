@@ -11,7 +11,6 @@ fn first_space(text: &[u8]) -> Option<usize>
     text.iter().position(|byte| *byte == b' ')
 }
 
-/// The first word, and the text after the one space that follows it.
 #[tactic(auto, using(crate::proofs::FirstWord::no_space, crate::proofs::FirstWord::space_in_front, crate::proofs::FirstWord::space_behind))]
 pub(crate) fn first_word(text: &[u8]) -> Option<(&[u8], &[u8])>
     ensures { option_map (λ parts. (parts.0.now, parts.1.now)) result ≡ first_word text.now }
@@ -41,7 +40,6 @@ fn has_only_digits(text: &[u8]) -> bool
     text.iter().all(|byte| byte.is_ascii_digit())
 }
 
-/// Whether the text is one digit or more.
 #[tactic(auto, unfolding(crate::specs::Reading::is_number))]
 pub(crate) fn is_number(text: &[u8]) -> bool
     ensures { result ≡ is_number text.now }
@@ -49,7 +47,6 @@ pub(crate) fn is_number(text: &[u8]) -> bool
     !text.is_empty() && has_only_digits(text)
 }
 
-/// Whether the text is two words, as a date and a time of the day are.
 #[tactic(auto, unfolding(crate::specs::Reading::is_moment))]
 pub(crate) fn is_moment(text: &[u8]) -> bool
     ensures { result ≡ is_moment text.now }
@@ -60,7 +57,6 @@ pub(crate) fn is_moment(text: &[u8]) -> bool
     }
 }
 
-/// The number in the digits, at most 2^32.
 pub(crate) fn number(digits: &[u8]) -> u64
     ensures { result ≡ min 4_294_967_296 (decimal digits.now) }
 {

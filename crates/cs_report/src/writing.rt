@@ -1,4 +1,3 @@
-//! The texts of scripts.
 ghost use Rattle.std.specs.Prelude.{◌≡◌, ◌≤◌, ◌++◌, true, flat_map, length, IfOk, Ok, OnOk};
 ghost use Rattle.std.specs.List.{list_all};
 ghost use Rattle.cs_plan.specs.JobNames.{command_name, identifier_of};
@@ -19,7 +18,6 @@ use cs_history::{Event, Script, Start};
 use cs_plan::{Plan, identifier_of};
 use std::alloc::{AllocError, Global};
 
-/// Adds ` YYYY-MM-DD HH:MM`.
 fn push_minute(text: &mut Vec<u8>, at: u64) -> Result<(), AllocError>
     requires { is_civil at ≡ true }
     ensures { OnOk result (text.new.items ≡ text.old.items ++ at_minute at) }
@@ -29,7 +27,6 @@ fn push_minute(text: &mut Vec<u8>, at: u64) -> Result<(), AllocError>
     text.extend_from_slice(&date_text(minute))
 }
 
-/// Adds `line N`.
 #[tactic(auto, unfolding(cs_plan::specs::JobNames::command_name))]
 fn push_command(alloc: Global, text: &mut Vec<u8>, plan: &Plan, job: u16) -> Result<(), AllocError>
     requires { is_cron_name plan.now job ≡ true }
@@ -41,14 +38,12 @@ fn push_command(alloc: Global, text: &mut Vec<u8>, plan: &Plan, job: u16) -> Res
     push_number(alloc, text, u128::from(number))
 }
 
-/// Adds `ID`.
 fn push_identifier(text: &mut Vec<u8>, plan: &Plan, job: u16) -> Result<(), AllocError>
     ensures { OnOk result (text.new.items ≡ text.old.items ++ identifier_of plan.now job) }
 {
     text.extend_from_slice(identifier_of(plan, usize::from(job)))
 }
 
-/// Adds `line N` or `job ID`.
 #[tactic(auto, unfolding(crate::specs::ScriptText::job_name), using(crate::proofs::NamedJobs::anacron_else))]
 fn push_job(alloc: Global, text: &mut Vec<u8>, plan: &Plan, job: u16) -> Result<(), AllocError>
     requires { is_job_name plan.now job ≡ true }
@@ -62,7 +57,6 @@ fn push_job(alloc: Global, text: &mut Vec<u8>, plan: &Plan, job: u16) -> Result<
     push_identifier(text, plan, job)
 }
 
-/// Adds the line of an event, without its newline.
 fn push_event(
     alloc: Global,
     text: &mut Vec<u8>,
@@ -122,7 +116,6 @@ fn push_events(
     Ok(())
 }
 
-/// Adds ` YYYY-MM-DD`.
 fn push_day(text: &mut Vec<u8>, day: Day) -> Result<(), AllocError>
     ensures { OnOk result (text.new.items ≡ text.old.items ++ on_day day) }
 {
@@ -130,7 +123,6 @@ fn push_day(text: &mut Vec<u8>, day: Day) -> Result<(), AllocError>
     text.extend_from_slice(&day_text(day))
 }
 
-/// Adds the line of a stamp, if there is one.
 fn push_stamp(text: &mut Vec<u8>, job: &Job, stamp: Option<Day>) -> Result<(), AllocError>
     ensures { OnOk result (text.new.items ≡ text.old.items ++ stamp_line job.now stamp) }
 {
@@ -160,7 +152,6 @@ fn push_stamps(text: &mut Vec<u8>, jobs: &[Job], stamps: &[Option<Day>]) -> Resu
     Ok(())
 }
 
-/// Adds `start DT up` or `start DT down`.
 fn push_start(text: &mut Vec<u8>, start: &Start) -> Result<(), AllocError>
     ensures { OnOk result (text.new.items ≡ text.old.items ++ start_line start.now) }
 {
@@ -175,7 +166,7 @@ fn push_start(text: &mut Vec<u8>, start: &Start) -> Result<(), AllocError>
 
 /// Formats a script that is [`is_nameable`](crate::is_nameable): a line each for the start, its
 /// stamps and the events. [`read_script`](crate::read_script) returns the same script if the text
-/// isn't too long. The only error is out of memory.
+/// isn't too long.
 #[tactic(auto, unfolding(crate::specs::ScriptText::script_text), using(crate::proofs::NamedJobs::events_nameable, crate::proofs::BackScript::reads_back))]
 pub fn script_text(alloc: Global, plan: &Plan, script: &Script) -> Result<Bytes, AllocError>
     requires { is_nameable plan.now script.now ≡ true }

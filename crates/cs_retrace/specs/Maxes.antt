@@ -14,7 +14,7 @@ use Rattle.cs_retrace.specs.declared.maxes.MaxFault.{MaxFault}
 use Rattle.cs_retrace.specs.declared.maxes.MaxFault.TheVariants.{Shape, Range, Twice}
 use Rattle.cs_retrace.specs.declared.maxes.TheConstants.{LONGEST_MAX}
 
--- a number and the words before it, each behind a blank
+-- a number and the two words before it, with blanks between
 unfoldable pub words_in : List ℕ → Option (List ℕ × List ℕ × ℕ)
 words_in text = do
   first ← quoted_at 32 text
@@ -58,7 +58,7 @@ is_given given name = list_any (λ g. is_same g.name name) given
 abbrev pub max_of : List Given → JobName → Option ℕ
 max_of given name = option_map (λ g. g.max) (find (λ g. is_same g.name name) given)
 
--- What a line at that place gives behind others: a longest time from 1 to 4,320 minutes, the first
+-- What a line at that place gives after others: a longest time from 1 to 4,320 minutes, the first
 -- for its job; or what is wrong with it.
 abbrev pub one_of : ℕ → List Given → Option (JobName × ℕ) → Result Given MaxFault
 one_of place given None = Err Shape
@@ -73,7 +73,7 @@ unfoldable pub numbered : ℕ → List (List ℕ) → List (ℕ × List ℕ)
 numbered place [] = []
 numbered place (line ∷ lines) = (place, line) ∷ numbered (min (place + 1) (2 ^ 64 - 1)) lines
 
--- what such lines give behind others; or the place of the first that has a fault, and which one
+-- what such lines give after others; or the place of the first that has a fault, and which one
 unfoldable pub given_by : List Given → List (ℕ × List ℕ) → Result (List Given) (ℕ × MaxFault)
 given_by given [] = Ok given
 given_by given (line ∷ lines) =

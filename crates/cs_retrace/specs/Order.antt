@@ -1,4 +1,4 @@
--- The order of the events that a daemon's log tells.
+-- The order of the events in a daemon's log.
 use Rattle.std.specs.Prelude.{ℕ, List}
 use Rattle.std.specs.Ordering.{nat_cmp, ordering_then}
 use Rattle.std.specs.declared.cmp.Ordering.{Ordering}

@@ -1,4 +1,3 @@
-//! What happened in one minute, as a line of a script.
 ghost use Rattle.std.specs.Prelude.{◌≡◌};
 ghost use Rattle.cs_retrace.specs.Order.{place_of, turn_number};
 
@@ -30,22 +29,19 @@ impl Turn {
     }
 }
 
-/// An event of a script.
+/// What happened in one minute: an event of a script.
 #[derive(Drop)]
 pub(crate) struct Entry {
-    /// The minute.
     pub(crate) at: u64,
-    /// Where in its minute.
     pub(crate) turn: Turn,
     /// Where among the events of that minute and turn: the number of a line of the crontab, or how
-    /// many events the log has told before.
+    /// many events came before it in the log.
     pub(crate) order: u64,
     /// The line of the script, with its newline; empty where only the minute is known.
     pub(crate) text: Bytes,
 }
 
 impl Entry {
-    /// Its place among all events: by minute, then by turn, then by order.
     pub(crate) fn place(&self) -> (u64, u64, u64)
         ensures { result ≡ place_of self.now }
     {

@@ -1,4 +1,4 @@
-//! The lines of a daemon's log, when they were written, and the script of the history that they tell.
+//! Gives the script of the history in a daemon's log, and reads longest times of jobs.
 #![tactic(auto)]
 
 mod entry;

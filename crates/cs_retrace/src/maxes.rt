@@ -1,6 +1,6 @@
 //! The longest times of jobs, as `learn` prints them and `draft` reads them: a line each, as
-//! `line 3 25`, for 25 minutes of the job on line 3 of the crontab, or `job cron.daily 25`, for those
-//! of that job of the anacrontab.
+//! `line 3 25`, for 25 minutes of the job on line 3 of the crontab, or `job cron.daily 25`, for
+//! those of that job of the anacrontab.
 ghost use Rattle.std.specs.Prelude.{◌≡◌, ◌==◌, Err, IfErr, IfOk, None, Some, bytes_eq, option_map};
 ghost use Rattle.std.specs.List.{list_any};
 ghost use Rattle.cs_retrace.specs.Maxes.{given_in, has_job, is_given, is_quiet, is_same, max_in, max_of, name_in};
@@ -56,7 +56,7 @@ impl JobName {
         }
     }
 
-    /// Returns `line 3` or `job cron.daily`. The only error is out of memory.
+    /// Returns `line 3` or `job cron.daily`.
     pub fn text(&self, alloc: Global) -> Result<Vec<u8>, AllocError> {
         match self {
             JobName::Line(number) => Ok(format!(in alloc; "line {number}")?.into_bytes()),
@@ -109,11 +109,10 @@ pub enum MaxFault {
     Shape,
     /// The longest time of this job isn't from 1 to [`LONGEST_MAX`].
     Range(JobName),
-    /// A line before gives one to this job.
+    /// An earlier line gives one to this job.
     Twice(JobName),
 }
 
-/// What names a job, `line 3` or `job cron.daily`, and how many minutes follow.
 #[tactic(auto, unfolding(crate::specs::Maxes::words_in))]
 fn words_in(text: &[u8]) -> Option<(&[u8], &[u8], u64)>
     ensures { option_map (λ p. (p.0.now, p.1.now, p.2)) result ≡ words_in text.now }
@@ -123,7 +122,6 @@ fn words_in(text: &[u8]) -> Option<(&[u8], &[u8], u64)>
     Some((kind, name, number(max)?))
 }
 
-/// The job of that name.
 fn name_in(alloc: Global, kind: &[u8], name: &[u8]) -> Result<Option<JobName>, AllocError>
     ensures { IfOk result (λ found. found ≡ name_in kind.now name.now) }
 {
@@ -139,7 +137,6 @@ fn name_in(alloc: Global, kind: &[u8], name: &[u8]) -> Result<Option<JobName>, A
     }
 }
 
-/// What a line gives, if it is of the form.
 #[tactic(auto, unfolding(crate::specs::Maxes::max_in))]
 fn max_in(alloc: Global, text: &[u8]) -> Result<Option<(JobName, u64)>, AllocError>
     ensures { IfOk result (λ found. found ≡ max_in text.now) }
@@ -191,7 +188,6 @@ pub fn max_of_identifier(given: &[Given], identifier: &[u8]) -> Option<u64>
     }
 }
 
-/// What a line at that place gives behind others, or what is wrong with it.
 fn one_given(
     alloc: Global,
     place: u64,
@@ -212,8 +208,8 @@ fn one_given(
     Ok(Ok(Given { place, name, max }))
 }
 
-/// Reads the longest times that a text gives; or finds its first line that has a fault. Empty lines
-/// and those that begin with `#` give none. The only error is out of memory.
+/// Reads the longest times that a text gives, or finds its first line with a fault. Empty lines and
+/// those that begin with `#` give none.
 #[tactic(auto, unfolding(crate::specs::Maxes::given_by, crate::specs::Maxes::numbered, cs_table::specs::Text::lines_of))]
 pub fn read_maxes(
     alloc: Global,

@@ -1,4 +1,4 @@
-//! The script of the history that a daemon's log tells.
+//! The script of the history in a daemon's log.
 ghost use Rattle.std.specs.Prelude.{IfOk};
 ghost use Rattle.cs_retrace.specs.Order.{IsInOrder};
 
@@ -12,7 +12,6 @@ use std::alloc::{AllocError, Global};
 /// minutes is about 16 MiB long.
 pub const MOST_MINUTES: u64 = 699_050;
 
-/// The events in order.
 fn in_order(events: Vec<Entry>) -> Result<Vec<Entry>, AllocError>
     ensures { IfOk result (λ ordered. IsInOrder events.items ordered.items) }
 {
@@ -21,13 +20,12 @@ fn in_order(events: Vec<Entry>) -> Result<Vec<Entry>, AllocError>
     Ok(events)
 }
 
-/// Returns the text of the script whose replay is the history that the log of a daemon tells, which is
-/// what `run --log` writes: of the last daemon, where it tells of several. It is empty where no line of
-/// the log has a time, and none where it has more than [`MOST_MINUTES`].
+/// Returns the script whose replay is the history in a log that `run --log` writes: that of its
+/// last daemon. It is empty if no line of the log has a time, and none if it has more than
+/// [`MOST_MINUTES`].
 ///
 /// The offset is the minutes by which the plan's clock is ahead of UTC. A line that isn't known is
-/// passed over. Whether the tables have the lines and jobs isn't looked at. The only error is out of
-/// memory.
+/// ignored. Whether the tables have the lines and jobs isn't looked at.
 pub fn retrace(alloc: Global, offset: i16, log: &[u8]) -> Result<Option<Vec<u8>>, AllocError> {
     let mut trace = Trace::new(alloc);
     let mut rest = log;

@@ -8,8 +8,8 @@ use cs_table::text::digits;
 
 const DAY: u64 = 86_400;
 
-/// The seconds from 1970-01-01 00:00 to a time `10:17:01` of a day `2024-09-13`. A minute may have a
-/// 61st second, the leap second.
+/// The seconds from 1970-01-01 00:00 to a time `10:17:01` of a day `2024-09-13`. A minute may have
+/// a 61st second, the leap second.
 fn seconds(date: &[u8], clock: &[u8]) -> Option<u64>
     ensures { IfSome result (λ seconds. seconds ≤ 1_000_000_000_000) }
 {
@@ -24,7 +24,6 @@ fn seconds(date: &[u8], clock: &[u8]) -> Option<u64>
     Some(day.number() * DAY + hour * 3600 + minute * 60 + second)
 }
 
-/// The number of a month, in two digits.
 fn month(name: &[u8]) -> Option<[u8; 2]> {
     match name {
         _ if is_word(name, b"Jan") => Some([b'0', b'1']),
@@ -43,8 +42,8 @@ fn month(name: &[u8]) -> Option<[u8; 2]> {
     }
 }
 
-/// The moment at the front, such as `Nov  7 10:17:01`, and what follows the blank behind it. It is that
-/// of the year 2000, which has a 29 February.
+/// Returns the moment at the front, such as `Nov  7 10:17:01`, and what follows the blank after it.
+/// The year is 2000, which has a 29 February.
 pub fn moment_of_year(text: &[u8]) -> Option<(Moment, &[u8])> {
     let (name, rest) = split(b' ', text)?;
     let [tens, ones, b' ', rest @ ..] = rest else {
@@ -89,7 +88,7 @@ fn universal(text: &[u8]) -> Option<Moment> {
     Some(Moment::Universal(by_utc(local, zone)?))
 }
 
-/// Returns the moment at the front, and what follows the blank behind it.
+/// Returns the moment at the front, and what follows the blank after it.
 pub fn time_and_rest(text: &[u8]) -> Option<(Moment, &[u8])> {
     let (stamp, rest) = split(b' ', text)?;
     Some((universal(stamp)?, rest))

@@ -1,8 +1,8 @@
-//! What a line of a daemon's log tells, behind its time.
+//! What a line of a daemon's log reports, after its time.
 use crate::words::{behind, is_word, number, split};
 use cs_civil::read_minute;
 
-/// What a line tells of a run.
+/// What a line reports of a run.
 #[derive(Clone, Copy)]
 pub enum Verb {
     /// A worker has taken it.
@@ -19,16 +19,16 @@ pub enum Verb {
     Overrun,
 }
 
-/// A run, and what a line tells of it.
+/// A run, and what a line reports of it.
 #[derive(Clone, Copy)]
 pub struct RunTold<'t> {
-    /// What is told.
+    /// What is reported.
     pub verb: Verb,
     /// The number of its line, if it is of the crontab.
     pub line: Option<u64>,
     /// The digits of that, or the identifier of its job.
     pub name: &'t [u8],
-    /// The minute in which it was due, or that in which a job started.
+    /// The minute in which it was due, or that in which a job started, since 1970-01-01 00:00.
     pub at: u64,
 }
 
@@ -50,8 +50,8 @@ fn minute(text: &[u8]) -> Option<(u64, &[u8])> {
     Some((read_minute(front).ok()?.number(), rest))
 }
 
-/// What a line such as `started line 1 due 2024-09-13 23:30` or `ended job backup at 2024-09-13 23:30
-/// status 0` tells of a run. What follows isn't looked at.
+/// Returns what a line such as `started line 1 due 2024-09-13 23:30` or
+/// `ended job backup at 2024-09-13 23:30 status 0` reports of a run. What follows isn't looked at.
 pub fn told(text: &[u8]) -> Option<RunTold<'_>> {
     let (word, rest) = split(b' ', text)?;
     let verb = verb_of(word)?;
@@ -75,7 +75,7 @@ pub fn told(text: &[u8]) -> Option<RunTold<'_>> {
     })
 }
 
-/// The minutes of an outage, the last one before it and the first one behind it.
+/// The minutes of an outage: the last one before it, and the first one after it.
 pub(crate) fn outage(text: &[u8]) -> Option<(u64, u64)> {
     let (from, rest) = minute(behind(b"outage ", text)?)?;
     let (to, _rest) = minute(behind(b" to ", rest)?)?;
@@ -87,7 +87,8 @@ pub fn begins(text: &[u8]) -> bool {
     behind(b"running ", text).is_some()
 }
 
-/// Whether a daemon starts nothing more: it is asked to stop, it has accepted other files, or it ends.
+/// Whether a daemon starts nothing more: it is asked to stop, it has accepted other files, or it
+/// ends.
 pub(crate) fn is_end(text: &[u8]) -> bool {
     is_word(text, b"asked to stop")
         || is_word(text, b"reload accepted, the runs under way end first")

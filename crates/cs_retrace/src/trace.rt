@@ -1,4 +1,4 @@
-//! The events that the lines of a log tell.
+//! The events that the lines of a log report.
 use crate::entry::{Entry, Turn};
 use crate::moment::Moment;
 use crate::stamp::time_and_rest;
@@ -7,26 +7,25 @@ use cs_civil::{Bytes, Minute, date_text};
 use indexmap::IndexMap;
 use std::alloc::{AllocError, Global};
 
-/// What is known behind some lines of a log.
+/// What is known after some lines of a log.
 #[derive(Drop)]
 pub(crate) struct Trace {
-    /// Where the script starts, and whether the log tells that its daemon began there.
+    /// Where the script starts, and whether the log shows that its daemon began there.
     pub(crate) opening: Option<(u64, bool)>,
     /// How many daemons began.
     pub(crate) daemons: u64,
     /// Whether the last one starts nothing more.
     is_over: bool,
-    /// The latest minute.
     pub(crate) latest: u64,
     /// The minute of the last end.
     freed: u64,
-    /// Of the runs that were told to wait, by line and minute, whether they wait still.
+    /// Of the runs that waited, by line and minute, whether they wait still.
     waiting: IndexMap<(u64, u64), bool>,
-    /// The events, as the log tells them.
+    /// In the order of the log.
     pub(crate) events: Vec<Entry>,
 }
 
-/// A minute from 1970-01-02 to 9999-12-31; another one is no date.
+/// The text of a minute, `?` where it isn't from 1970-01-02 to 9999-12-31.
 pub(crate) fn date(at: u64) -> [u8; 16] {
     match Minute::new(at) {
         Some(minute) => date_text(minute),
@@ -45,7 +44,6 @@ fn by_clock(offset: i16, second: u64) -> u64 {
 }
 
 impl Trace {
-    /// No line yet.
     pub(crate) fn new(alloc: Global) -> Trace {
         Trace {
             opening: None,
@@ -58,7 +56,7 @@ impl Trace {
         }
     }
 
-    /// Adds an event, whose line has these words; with no words only its minute is known.
+    /// Adds an event, whose line has these words; without words only its minute is known.
     fn put(
         &mut self,
         alloc: Global,
@@ -81,7 +79,7 @@ impl Trace {
         Ok(())
     }
 
-    /// Adds an event behind all that the log has told.
+    /// Adds an event after all that the log has reported.
     fn put_next(
         &mut self,
         alloc: Global,
@@ -101,7 +99,7 @@ impl Trace {
         self.put_next(alloc, at, Turn::Comes, &[b"up ", &date(at), b"\n"])
     }
 
-    /// A daemon that starts nothing more is down. For what is told of a later minute it comes up in
+    /// A daemon that starts nothing more is down. For a report of a later minute it comes up in
     /// that minute and goes down again: so the time passes, and nothing begins.
     fn reach(&mut self, alloc: Global, at: u64) -> Result<(), AllocError> {
         if self.is_over && self.latest < at {
@@ -111,21 +109,21 @@ impl Trace {
         Ok(())
     }
 
-    /// The minute of a line. The daemon looks at the clock once a second, so what it tells in the first
-    /// two seconds of a minute may have come in the minute before.
+    /// The minute of a line. The daemon looks at the clock once a second, so what it reports in the
+    /// first two seconds of a minute may have come in the minute before.
     fn settled_minute(&self, second: u64) -> u64 {
         self.latest.max(second.saturating_sub(2) / 60)
     }
 
-    /// A line of the crontab begins in the minute in which it is due, among those of that minute in the
-    /// order of the table.
+    /// A line of the crontab begins in the minute in which it is due, among those of that minute in
+    /// the order of the table.
     fn begin(&mut self, alloc: Global, line: u64, run: RunTold<'_>) -> Result<(), AllocError> {
         let words: &[&[u8]] = &[b"begin line ", run.name, b"\n"];
         self.put(alloc, run.at, Turn::Begins, line, words)
     }
 
-    /// A run that waits gets its lock behind the last end; one that doesn't begins, or is caught up if
-    /// it is an anacron job's.
+    /// A run that waits gets its lock after the last end; one that doesn't begins, or is caught up
+    /// if it is an anacron job's.
     fn start(&mut self, alloc: Global, run: RunTold<'_>) -> Result<(), AllocError> {
         let Some(line) = run.line else {
             let words: &[&[u8]] = &[b"catch ", run.name, b"\n"];
@@ -158,8 +156,8 @@ impl Trace {
         Ok(())
     }
 
-    /// Takes what is told of a run. Only lines of the crontab wait or are skipped. An overrun is told in
-    /// the minute from which on the run is late, so that this minute has come.
+    /// Takes a report of a run. Only lines of the crontab wait or are skipped. An overrun is
+    /// reported in the minute from which on the run is late, so that this minute has come.
     fn run(&mut self, alloc: Global, second: u64, run: RunTold<'_>) -> Result<(), AllocError> {
         match (run.verb, run.line) {
             (Verb::Started, _) => self.start(alloc, run),
@@ -179,8 +177,8 @@ impl Trace {
         }
     }
 
-    /// Takes what is told of the daemon: in an outage it is down from the first minute to the second,
-    /// and one that starts nothing more goes down. Each other line is passed over.
+    /// Takes a report of the daemon: in an outage it is down from the first minute to the second,
+    /// and one that starts nothing more goes down. Each other line is ignored.
     fn other(&mut self, alloc: Global, second: u64, text: &[u8]) -> Result<(), AllocError> {
         if let Some((from, to)) = outage(text) {
             self.go(alloc, from)?;
@@ -195,8 +193,8 @@ impl Trace {
     }
 
     /// Takes the next line, without its newline. A daemon that begins comes up in that minute, and
-    /// nothing before it counts; a log that begins amid a daemon's lines starts with the minute before.
-    /// A line without a time is passed over. The only error is out of memory.
+    /// nothing before it counts; a log that begins amid a daemon's lines starts with the minute
+    /// before. A line without a time is ignored.
     pub(crate) fn line(
         &mut self,
         alloc: Global,

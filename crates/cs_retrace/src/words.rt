@@ -1,4 +1,3 @@
-//! Parts of a line.
 ghost use Rattle.std.specs.Prelude.{◌≡◌, ◌≤◌, true, min, bytes_eq, IfSome, option_map};
 ghost use Rattle.std.specs.List.{list_all};
 ghost use Rattle.cs_table.specs.Text.{is_digit, decimal};
@@ -7,7 +6,7 @@ ghost use Rattle.cs_retrace.specs.Words.{behind, number_of};
 
 use memchr::memchr;
 
-/// What stands before the first such byte, and what follows it.
+/// Returns what stands before the first such byte, and what follows it.
 pub fn split(byte: u8, text: &[u8]) -> Option<(&[u8], &[u8])>
     ensures { option_map (λ p. (p.0.now, p.1.now)) result ≡ quoted_at byte text.now }
 {
@@ -22,7 +21,7 @@ pub fn is_word(text: &[u8], word: &[u8]) -> bool
     text == word
 }
 
-/// What follows these bytes, where the text begins with them.
+/// Returns what follows these bytes, if the text begins with them.
 #[tactic(auto, unfolding(crate::specs::Words::behind))]
 pub fn behind<'t>(start: &[u8], text: &'t [u8]) -> Option<&'t [u8]>
     ensures { option_map (λ rest. rest.now) result ≡ behind start.now text.now }
@@ -33,7 +32,8 @@ pub fn behind<'t>(start: &[u8], text: &'t [u8]) -> Option<&'t [u8]>
     Some(&text[start.len()..])
 }
 
-/// The number of decimal digits, where the text is nothing else and it is at most 999,999,999,999.
+/// Returns the number of decimal digits, if the text is nothing else and it is at most
+/// 999,999,999,999.
 #[tactic(auto, unfolding(crate::specs::Words::number_of))]
 pub fn number(text: &[u8]) -> Option<u64>
     ensures value { result ≡ number_of text.now }
@@ -55,7 +55,6 @@ fn are_digits(text: &[u8]) -> bool
     text.iter().all(|byte| byte.is_ascii_digit())
 }
 
-/// The number that digits write, at most 1,000,000,000,000.
 fn decimal(text: &[u8]) -> u64
     requires { list_all is_digit text.now ≡ true }
     ensures { result ≡ min 1_000_000_000_000 (decimal text.now) }

@@ -3,7 +3,7 @@ use crate::entry::{Entry, Turn};
 use crate::trace::date;
 use std::alloc::{AllocError, Global};
 
-/// Adds the minutes behind one minute, up to another.
+/// Adds the minutes after one minute, up to another.
 fn push_minutes(text: &mut Vec<u8>, now: u64, at: u64) -> Result<(), AllocError> {
     for minute in now..at {
         text.extend_from_slice(b"minute ")?;
@@ -34,8 +34,8 @@ fn opening_text(alloc: Global, daemons: u64, opening: (u64, bool)) -> Result<Vec
     Ok(text)
 }
 
-/// The script of a start and of events in their order, with the minutes between them while the daemon
-/// is up. The only error is out of memory.
+/// The script of a start and of events in their order, with the minutes between them while the
+/// daemon is up.
 pub(crate) fn written(
     alloc: Global,
     daemons: u64,

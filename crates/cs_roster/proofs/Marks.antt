@@ -16,16 +16,13 @@ use Rattle.cs_roster.specs.Roster.{AreKept, has, others, still, unless_left}
 abbrev Entries : Type 0
 Entries = List (Run × Option ℕ)
 
--- the entry of an element that came in this minute
 abbrev came : Run → ℕ → Going
 came r since = record { run = r; since = since }
 
--- whether a name leads to a run that hasn't left
 abbrev is_there : Option (Option ℕ) → Bool
 is_there None = false
 is_there (Some since) = is_some since
 
--- one entry more at the head
 has_head : (r : Run) (e : Run × Option ℕ) (rest : List Going) (a : Bool) → has rest r ≡ a → same_run r e.0 ≡ false → has (unless_left e.0 e.1 ++ rest) r ≡ a
 has_head r e rest a h differs = by e.1
   where
@@ -33,16 +30,14 @@ has_head r e rest a h differs = by e.1
     by None = h
     by (Some since) = ap (λ (b : Bool). b || has rest r) differs ∙ h
 
--- a run whose name no entry has is not among them
 none_has : (r : Run) (es : Entries) → AllByRecursion (λ k. same_run r k ≡ false) (keys_of es) → has (still es) r ≡ false
 none_has r [] h = refl
 none_has r (e ∷ es) h = has_head r e (still es) false (none_has r es h.1) h.0
 
--- a name that an entry has is that of none after it
+-- no entry after one of this name has it too
 others_differ : (r : Run) (e : Run × Option ℕ) (es : Entries) → same_run r e.0 ≡ true → IsDistinct same_run (keys_of (e ∷ es)) → has (still es) r ≡ false
 others_differ r e es same d = none_has r es (subst (λ (q : Run). AllByRecursion (λ k. same_run q k ≡ false) (keys_of es)) (sym (run_is r e.0 same)) (IsDistinct-head same_run e.0 (keys_of es) d))
 
--- where a name leads
 has_lookup : (r : Run) (es : Entries) → IsDistinct same_run (keys_of es) → has (still es) r ≡ is_there (lookup (same_run r) es)
 has_lookup r [] d = refl
 has_lookup r (e ∷ es) d = by (same_run r e.0) refl (has_lookup r es (IsDistinct-tail same_run e.0 (keys_of es) d))
@@ -61,11 +56,9 @@ there_some r es gone since kept found = ap is_there found ∙ sym (has_lookup r 
 pub there_none : (r : Run) (es : Entries) (gone : ℕ) → AreKept es gone → None ≡ lookup (same_run r) es → false ≡ has (still es) r
 there_none r es gone kept found = ap is_there found ∙ sym (has_lookup r es kept.distinct)
 
--- the minute in which the run came
 abbrev pub since_in : List Going → Run → Option ℕ
 since_in runs r = option_map (λ x. x.since) (find (λ x. same_run r x.run) runs)
 
--- that of an entry, if there is one
 abbrev joined : Option (Option ℕ) → Option ℕ
 joined None = None
 joined (Some since) = since
@@ -114,7 +107,6 @@ no_others r (x ∷ xs) h = by (same_run r x.run) refl (no_others r xs)
 pub nothing_to_remove : (r : Run) (runs : List Going) → has runs r ≡ false → runs ≡ others runs r
 nothing_to_remove r runs h = sym (no_others r runs h)
 
--- a run that is marked
 abbrev marked : Entries → Run → Entries
 marked es r = insert_entry same_run es r None
 
@@ -129,7 +121,6 @@ still_marked r (e ∷ es) d found = by (same_run r e.0) refl found (still_marked
     by false same f rest None = rest f
     by false same f rest (Some since) = ap (λ (ys : List Going). came e.0 since ∷ ys) (rest f) ∙ sym (others_head r (came e.0 since) (still es) false same)
 
--- one less is there than before
 marked_less : (r : Run) (es : Entries) → IsDistinct same_run (keys_of es) → has (still es) r ≡ true → length (still (marked es r)) + 1 ≡ length (still es)
 marked_less r [] d h = absurd (both_ways false refl h)
 marked_less r (e ∷ es) d h = by (same_run r e.0) refl (marked_less r es (IsDistinct-tail same_run e.0 (keys_of es) d)) e.1 h
@@ -141,7 +132,6 @@ marked_less r (e ∷ es) d h = by (same_run r e.0) refl (marked_less r es (IsDis
     by false same rest None g = rest g
     by false same rest (Some since) g = omega (arith, rest (sym (ap (λ (b : Bool). b || has (still es) r) same) ∙ g))
 
--- a run that comes
 pub came_last : (r : Run) (since : ℕ) (es : Entries) → lookup (same_run r) es ≡ None → still (insert_entry same_run es r (Some since)) ≡ still es ++ came r since ∷ []
 came_last r since [] absent = refl
 came_last r since (e ∷ es) absent = by (same_run r e.0) absent (came_last r since es) e.1
@@ -152,7 +142,7 @@ came_last r since (e ∷ es) absent = by (same_run r e.0) absent (came_last r si
     by false f rest None = rest f
     by false f rest (Some t) = ap (λ (ys : List Going). came e.0 t ∷ ys) (rest f)
 
--- a mark that is let go
+-- a mark that is dropped
 still_without : (r : Run) (es : Entries) → has (still es) r ≡ false → still (remove_entry (same_run r) es) ≡ still es
 still_without r [] h = refl
 still_without r (e ∷ es) h = by (same_run r e.0) refl (still_without r es) e.1 h
@@ -164,7 +154,6 @@ still_without r (e ∷ es) h = by (same_run r e.0) refl (still_without r es) e.1
     by false same rest None g = rest g
     by false same rest (Some since) g = ap (λ (ys : List Going). came e.0 since ∷ ys) (rest (sym (ap (λ (b : Bool). b || has (still es) r) same) ∙ g))
 
--- those that are left are no more than the entries
 pub still_fewer : (es : Entries) → length (still es) ≤ length es
 still_fewer [] = omega arith
 still_fewer (e ∷ es) = by e.1 (still_fewer es)
@@ -192,7 +181,6 @@ kept_marked r es fs gone here all kept h is distinct counted listed =
     let less : length (still fs) + 1 ≡ length (still es) = ap (λ (gs : Entries). length (still gs) + 1) is ∙ marked_less r es kept.distinct h in
     record { distinct = distinct; count = omega (arith, less, counted, listed, still_fewer fs) }
 
--- the entries without a mark of this name
 pub view_without : (r : Run) (es fs : Entries) → has (still es) r ≡ false → fs ≡ remove_entry (same_run r) es → still fs ≡ still es
 view_without r es fs h is = ap still is ∙ still_without r es h
 
@@ -220,7 +208,6 @@ kept_more r since es fs gs here all h is absent more distinct counted listed lon
     let now = ap length (view_more r since es fs gs h is absent more) ∙ one_more (still es) (came r since) in
     record { distinct = distinct; count = omega (arith, same, now, long, counted, listed, still_fewer fs) }
 
--- the entries without the marks
 still_swept : (es : Entries) → still (filter (λ e. is_some e.1) es) ≡ still es
 still_swept [] = refl
 still_swept (e ∷ es) = by e.1 (still_swept es)
@@ -246,19 +233,18 @@ kept_swept es fs is distinct =
     let all = ap (λ (gs : Entries). length (still gs)) is ∙ none_marked es ∙ ap length (sym is) in
     record { distinct = distinct; count = omega (arith, all) }
 
--- what holds holds at an error
+-- what holds anyway holds at an error
 pub on_err : {X E : Type 0} {P : Type 0} (r : Result X E) → P → OnErr r P
 on_err (Ok x) p = tt
 on_err (Err e) p = p
 
--- the runs that are left to come
+-- the runs that are still to come
 pub first_there : (r : Run) (since : ℕ) (o : Option ℕ) (es rest : Entries) (runs : List Going) → still es ≡ runs → es ≡ (r, o) ∷ rest → o ≡ Some since → runs ≡ came r since ∷ still rest
 first_there r since o es rest runs now first came_then = sym now ∙ ap still first ∙ ap (λ p. unless_left r p ++ still rest) came_then
 
 pub first_left : (r : Run) (o : Option ℕ) (es rest : Entries) (runs : List Going) → still es ≡ runs → es ≡ (r, o) ∷ rest → o ≡ None → still rest ≡ runs
 first_left r o es rest runs now first left = sym (ap (λ p. unless_left r p ++ still rest) left) ∙ sym (ap still first) ∙ now
 
--- no run is counted exactly where there is none
 pub none_counted : (runs : List Going) → length runs ≡ 0 → runs ≡ []
 none_counted [] e = refl
 none_counted (x ∷ xs) e = absurd (omega (arith, e))

@@ -1,4 +1,4 @@
-//! Runs by name in the order in which they came, at a cost that doesn't grow with their number.
+//! Lists runs by name in the order in which they came, at a cost that doesn't grow with them.
 #![tactic(auto)]
 
 mod roster;

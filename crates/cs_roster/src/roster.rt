@@ -9,7 +9,7 @@ use std::alloc::{AllocError, Global};
 use std::marker::Model;
 
 /// Runs by name, each with its minute, in the order in which they came. A run that leaves is
-/// marked, and marked runs are swept out once they are more than the others: so each call takes the
+/// marked, and marked runs are swept out once they are more than the others. So each call takes the
 /// same time on average, however many runs there are.
 #[derive(Drop)]
 pub struct Roster {
@@ -48,7 +48,7 @@ impl Roster {
         self.entries.len() - self.gone
     }
 
-    /// Checks whether there are no runs.
+    /// Whether there are no runs.
     #[tactic(auto, using(crate::proofs::Marks::none_counted, crate::proofs::Marks::some_counted))]
     pub fn is_empty(&self) -> bool
         ensures { IsTrue result ↔ (self.now ≡ []) }
@@ -56,7 +56,7 @@ impl Roster {
         self.len() == 0
     }
 
-    /// Checks whether there is a run of this name.
+    /// Whether there is a run of this name.
     pub fn contains(&self, run: Run) -> bool
         ensures { result ≡ has self.now run }
     {
@@ -66,7 +66,7 @@ impl Roster {
         }
     }
 
-    /// Returns the minute of the run of this name, if there is one.
+    /// Returns the minute of the run of this name.
     pub fn since(&self, run: Run) -> Option<u64>
         ensures { result ≡ option_map (λ x. x.since) (find (λ x. same_run run x.run) self.now) }
     {
@@ -76,7 +76,7 @@ impl Roster {
         }
     }
 
-    /// Adds a run at the end. The only error is out of memory, which changes nothing.
+    /// Adds a run at the end.
     pub fn push(&mut self, going: Going) -> Result<(), AllocError>
         requires { has self.old going.run ≡ false }
         ensures more { OnOk result (self.new ≡ self.old ++ going ∷ []) }

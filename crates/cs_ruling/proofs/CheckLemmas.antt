@@ -61,7 +61,6 @@ refused_reply x answer places ruled same is verdict one =
     let (said, status) = refused x answer places ruled same is verdict one in
     record { verdict = said; safe = λ zero. absurd (cc) }
 
--- bytes that denote a certificate aren't too long
 not_too_long : (bytes : List ℕ) (c : Content) → certificate_by bytes ≡ Ok c → MAX_CERTIFICATE < length bytes → ⊥
 unfolding certificate_by
 not_too_long bytes c is long =
@@ -107,7 +106,6 @@ digests_of files a c digests table declarations certificate one two three are =
     (subst (λ (t : List ℕ). digests ≡ record { table = digests.table; declarations = t; certificate = sha256 certificate }) second
     (subst (λ (t : List ℕ). digests ≡ record { table = digests.table; declarations = digests.declarations; certificate = t }) third refl))
 
--- a fault never has status 0
 fails : (t : Trouble) → trouble_status t ≢ 0
 fails (InWords fault) = λ e. absurd (cc)
 fails (Unread path reason) = λ e. absurd (cc)
@@ -124,7 +122,7 @@ pub check_stopped : (a : AskedCheck) (files : List ℕ → Option (List ℕ)) (w
     → IfSome (trouble e) (λ t. FindsClaimed files a w before after (Err t)) → IfSome (trouble e) (λ t. IsChecked a files w before after (ends [] t))
 check_stopped a files w before after e found = IfSome_then (trouble e) found (λ t is. record { answer = inl (t, is, refl); safe = λ zero. absurd (fails t zero) })
 
--- a plan and a certificate that were read, and what is answered of them
+-- a plan and a certificate that were read, and the answer to them
 pub check_answered : (a : AskedCheck) (files : List ℕ → Option (List ℕ)) (w : List ℕ) (before after : Failed) (x : Claimed) (r : Ending)
     → FindsClaimed files a w before after (Ok x) → IsReplyOn x r → IsChecked a files w before after r
 check_answered a files w before after x r found reply = record {
@@ -132,12 +130,10 @@ check_answered a files w before after x r found reply = record {
   safe = λ zero. let (checked, accepted) = reply.safe zero in record { claimed = x; read = found.1; checked = checked; accepted = accepted };
 }
 
--- a fault of the files of `run`
 pub run_stopped : (a : AskedRun) (files : List ℕ → Option (List ℕ)) (w : List ℕ) (before after : Failed) (e : FilesFault)
     → IfSome (trouble e) (λ t. FindsClaimed files a.check w before after (Err t)) → IfSome (trouble e) (λ t. AnswersRun a files w before after (Ends (ends [] t)))
 run_stopped a files w before after e found = IfSome_then (trouble e) found (λ t is. inl (t, is, refl))
 
--- a verdict is of another status than that of a failed device
 pub verdict_done : (x : Claimed) (r : Ending) → IsVerdictOn x r → r.status ≢ 6
 verdict_done x r verdict = by_fault (fault_of x.planned.plan (content x.certificate)) verdict
   where
@@ -145,7 +141,6 @@ verdict_done x r verdict = by_fault (fault_of x.planned.plan (content x.certific
     by_fault None (more, is) = λ six. let zero : r.status ≡ 0 = ap (λ (e : Ending). e.status) is in absurd (cc)
     by_fault (Some fault) (more, is) = λ six. let one : r.status ≡ 1 = ap (λ (e : Ending). e.status) is in absurd (cc)
 
--- and so is what comes of `run`
 pub ruled_done : (a : AskedRun) (x : Claimed) (answer : Answer) → IsRuled a x answer → IfEnds (λ e. e.status ≢ 6) answer
 ruled_done a x (Ends e) (inl (verdict, one)) = λ six. absurd (cc)
 ruled_done a x (Ends e) (inr others) = λ six. let three : e.status ≡ 3 = ap (λ (r : Ending). r.status) others.told in absurd (cc)
@@ -154,7 +149,6 @@ ruled_done a x (Stops words) is = absurd is
 ruled_done a x (Reloads folder) is = absurd is
 ruled_done a x (Tells words) is = absurd is
 
--- an answer of another status than that of a failed device is honest
 pub ends_honest : (failed : Failed) (reads : Reads) (answer : Answer) → IfEnds (λ e. e.status ≢ 6) answer → IfEnds (IsHonest failed reads) answer
 ends_honest failed reads (Ends e) other = λ six. absurd (other six)
 ends_honest failed reads (Runs order) other = tt

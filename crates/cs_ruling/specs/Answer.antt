@@ -1,5 +1,5 @@
 -- What a call comes to: an answer that ends it, an order to run tables, or words to stop a daemon,
--- to have it read its files anew or to show what it does.
+-- to have it read its files again, or to show its state.
 use Rattle.std.specs.Prelude.{◌≡◌, ◌⊎◌, ℕ, Bool, true, false, List, [], Option, Ok, Err, codes, ⊤}
 use Rattle.cs_place.specs.Mark.{is_gathered}
 use Rattle.cs_report.specs.Warning.{plan_notes}
@@ -17,7 +17,7 @@ use Rattle.cs_ruling.specs.declared.answer.Answer.{Answer}
 use Rattle.cs_ruling.specs.declared.answer.Answer.TheVariants.{Ends, Reloads, Runs, Stops, Tells}
 use Rattle.cs_ruling.specs.declared.answer.Order.{Order}
 
--- it ends, and this holds of how
+-- the call ends, and this holds of its ending
 abbrev pub EndsAs : (Ending → Type 0) → Answer → Type 0
 EndsAs P (Ends ending) = P ending
 EndsAs P (Runs order) = ⊥
@@ -25,7 +25,7 @@ EndsAs P (Stops words) = ⊥
 EndsAs P (Reloads stamps) = ⊥
 EndsAs P (Tells words) = ⊥
 
--- where it ends, this holds of how
+-- where the call ends, this holds of its ending
 abbrev pub IfEnds : (Ending → Type 0) → Answer → Type 0
 IfEnds P (Ends ending) = P ending
 IfEnds P (Runs order) = ⊤
@@ -37,8 +37,8 @@ IfEnds P (Tells words) = ⊤
 abbrev pub is_of_gathered : Checked → Bool
 is_of_gathered checked = is_gathered (plan_in checked).crontab.settings
 
--- what is to be run is the plan and the certificate that were claimed, which the checker accepts, as it
--- was asked, with the digests of the files; `check` would answer `safe` and the same notes
+-- what is to be run is the plan and the certificate that were claimed, which the checker accepts,
+-- as it was asked, with the digests of the files; `check` would answer `safe` and the same notes
 pub record IsOrder (a : AskedRun) (x : Claimed) (order : Order) : Type 0 where
   pub accepted : IsAccepted x order.checked
   pub own : is_of_gathered order.checked ≡ false

@@ -1,5 +1,5 @@
--- What is answered to `check`: whether a certificate is accepted for the tables as they are
--- declared, or the first rule that isn't met.
+-- The answer to `check`: whether a certificate is accepted for the tables as they are declared, or
+-- the first rule that isn't met.
 use Rattle.std.specs.Prelude.{◌≡◌, ◌⊎◌, ℕ, List, ◌∷◌, ◌++◌, [], Option, Some, None, Result}
 use Rattle.std.specs.Prelude.{Ok, Err, IfSome, codes}
 use Rattle.std.specs.Result.{result_map_both}
@@ -32,7 +32,6 @@ use Rattle.cs_ruling.specs.declared.check.Claimed.{Claimed}
 abbrev pub said : {E : Type 0} → Result Certificate E → Result Content E
 said read = result_map_both content (λ e. e) read
 
--- that no rule is broken
 unfoldable pub safe_text : List ℕ
 safe_text = codes "safe\n"
 
@@ -41,7 +40,6 @@ unfoldable pub verdict_text : Declared → Option Fault → List ℕ
 verdict_text plan None = safe_text
 verdict_text plan (Some fault) = fault_text plan fault ++ 10 ∷ []
 
--- the jobs that a fault names
 abbrev pub jobs_of : Fault → List ℕ
 jobs_of (ClassNotDue kind) = []
 jobs_of (Missing kinds) = []
@@ -73,8 +71,8 @@ stale_note (Collision at one other) = []
 stale_note (OverCapacity at load) = []
 stale_note (SkipBlocked at skip other) = []
 
--- what is answered of a certificate by its first fault: 0 where it is safe, 1 where it is refused,
--- beside the notes on the plan, the places of the lines that the fault names, more notes, and a note
+-- the answer to a certificate by its first fault: status 0 where it is safe, 1 where it is refused,
+-- with the notes on the plan, the places of the lines that the fault names, more notes, and a note
 -- where the certificate may be of other files
 abbrev pub verdict : Declared → List Place → List ℕ → Option Fault → Ending
 verdict plan places more None = done (verdict_text plan None) (plan_notes plan)
@@ -109,13 +107,11 @@ pub record AreDigestsOf (files : List ℕ → Option (List ℕ)) (a : AskedCheck
   pub declarations : IsDigestAt files a.declarations digests.declarations
   pub certificate : IsDigestOf files a.certificate c digests.certificate
 
--- the certificate at a path
 abbrev pub ReadsCertificate : (List ℕ → Option (List ℕ)) → Text → Failed → Failed
     → Result Content Trouble → Type 0
 ReadsCertificate files path = ReadsAs files path (λ bytes c. certificate_by bytes ≡ c) InCertificate
 
--- the files denote this plan and this certificate, with these digests, and this is what is to be
--- warned of
+-- the files denote this plan and this certificate, with these digests, and these are the warnings
 pub record IsClaimed (files : List ℕ → Option (List ℕ)) (a : AskedCheck) (w : List ℕ) (failed : Failed)
     (x : Claimed) : Type 0 where
   pub planned : IsPlanned files a.table a.anacrontab a.declarations w failed x.planned
@@ -143,8 +139,8 @@ abbrev pub answer_of : Result Checked Ending → Ending
 answer_of (Ok checked) = done safe_text (plan_notes (plan_in checked))
 answer_of (Err answer) = answer
 
--- what is answered to `check`: the verdict, or the first fault of a file, and no file is read
--- before its own turn
+-- the answer to `check`: the verdict, or the first fault of a file, and no file is read before its
+-- own turn
 abbrev pub AnswersCheck : AskedCheck → (List ℕ → Option (List ℕ)) → List ℕ → Failed → Failed
     → Ending → Type 0
 AnswersCheck a files w = Answers (FindsClaimed files a w) IsVerdictOn

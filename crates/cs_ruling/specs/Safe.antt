@@ -19,15 +19,15 @@ pub record IsSafe (checked : Checked) : Type 0 where
   pub calm : IsCalmThroughout (as_plan (plan_in checked))
       (reach_for (plan_in checked) (certificate_in checked))
 
--- the checker accepts the certificate that is claimed for the plan: `safe` is the verdict, and of
--- the two that holds
+-- the checker accepts the certificate that is claimed for the plan: the verdict is `safe`, and so
+-- are they
 pub record IsAccepted (x : Claimed) (checked : Checked) : Type 0 where
   pub plan : plan_in checked ≡ x.planned.plan
   pub certificate : certificate_in checked ≡ content x.certificate
   pub verdict : IsVerdictOn x (done safe_text (plan_notes (plan_in checked)))
   pub safe : IsSafe checked
 
--- what is answered of what is claimed; the status is 0 only where the checker accepts it
+-- the answer to what is claimed; the status is 0 only where the checker accepts it
 pub record IsReplyOn (x : Claimed) (ending : Ending) : Type 0 where
   pub verdict : IsVerdictOn x ending
   pub safe : ending.status ≡ 0 → (checked : Checked) × IsAccepted x checked

@@ -1,4 +1,3 @@
-//! What is answered to the words of a call.
 ghost use Rattle.std.specs.Prelude.{◌≡◌, ◌++◌, [], IfOk};
 ghost use Rattle.cs_files.specs.Response.{complaint};
 
@@ -12,15 +11,15 @@ use std::alloc::{AllocError, Global};
 /// What a call comes to.
 #[derive(Drop)]
 pub enum Answer<'a> {
-    /// It ends so.
+    /// It ends with this.
     Ends(Response),
-    /// Tables are to be run so.
+    /// These tables are to be run.
     Runs(Order<'a>),
-    /// A daemon is to be stopped so.
+    /// A daemon is to be stopped.
     Stops(StopWords<'a>),
-    /// A daemon is to read its files anew: the path of the folder of stamps that it uses.
+    /// A daemon is to read its files again: the path of the folder of stamps that it uses.
     Reloads(&'a str),
-    /// It is to be shown what a daemon does.
+    /// The state of a daemon is to be shown.
     Tells(StatusWords<'a>),
 }
 
@@ -29,7 +28,7 @@ pub enum Answer<'a> {
 pub struct Order<'a> {
     /// The plan, with the certificate that the checker has accepted.
     pub checked: Checked,
-    /// What is still to be warned of: the notes on the plan.
+    /// The notes on the plan, still to be written.
     pub warnings: Bytes,
     /// What `run` is asked.
     pub words: RunWords<'a>,
@@ -38,8 +37,8 @@ pub struct Order<'a> {
 }
 
 impl Order<'_> {
-    /// What is answered where what is at this path can't be used, such as the folder of the stamps:
-    /// why, in front of the path. The only error is out of memory.
+    /// Returns the answer where what is at this path can't be used, such as the folder of the
+    /// stamps; `why` stands before the path.
     pub fn without(&self, alloc: Global, why: &str, path: &str) -> Result<Response, AllocError>
         ensures { IfOk result (λ r. r ≡ record {
           status = 6;

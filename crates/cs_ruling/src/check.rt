@@ -48,7 +48,6 @@ pub struct Digests {
     pub certificate: [u8; 32],
 }
 
-/// The certificate that the bytes denote, and their SHA-256.
 fn certificate_in<'a>(alloc: Global, bytes: &[u8]) -> Result<(Certificate, [u8; 32]), Fault<'a>>
     ensures value { MeansIt (λ bytes c. certificate_by bytes ≡ c) InCertificate bytes.now
         (said (without_rest result)) }
@@ -61,8 +60,6 @@ fn certificate_in<'a>(alloc: Global, bytes: &[u8]) -> Result<(Certificate, [u8; 
     }
 }
 
-/// The certificate that the file at a path denotes, and the SHA-256 (FIPS 180-4) of the file's
-/// bytes. The errors: the file can't be read, its bytes denote none, or out of memory.
 fn certificate_from<'a, I: Inputs>(
     alloc: Global,
     inputs: &mut I,
@@ -82,7 +79,6 @@ fn certificate_from<'a, I: Inputs>(
     certificate_in(alloc, bytes.as_slice())
 }
 
-/// The notes on the plan and on a rule that is broken.
 fn refusal_notes(
     alloc: Global,
     plan: &Plan,
@@ -103,7 +99,6 @@ fn refusal_notes(
     Ok(Bytes::from_vec(notes))
 }
 
-/// What is answered of a rule that is broken, beside the notes.
 #[tactic(auto, unfolding(crate::specs::Check::verdict_text))]
 fn refusal(
     alloc: Global,
@@ -120,8 +115,8 @@ fn refusal(
     Ok(Response::refused(text, notes))
 }
 
-/// What the checker rules, by as many threads as the machine has processors: the plan and the
-/// certificate that it accepts, or what is answered of the first rule that isn't met.
+/// What the checker rules, with as many threads as the machine has processors: the plan and the
+/// certificate that it accepts, or the answer to the first rule that isn't met.
 #[tactic(auto, unfolding(crate::specs::Check::verdict_text))]
 pub(crate) fn ruling<R: Threads + Sync>(
     rt: &R,
@@ -161,8 +156,8 @@ pub struct Claimed {
     pub digests: Digests,
 }
 
-/// Reads both tables, the declarations and then the certificate, and writes to standard error what is
-/// to be warned of the tables.
+/// Reads both tables, the declarations and then the certificate, and writes the tables' warnings to
+/// standard error.
 pub fn find_claimed<'a, I: Inputs, E: Output>(
     alloc: Global,
     inputs: &mut I,
@@ -196,7 +191,6 @@ pub fn find_claimed<'a, I: Inputs, E: Output>(
     })
 }
 
-/// What is answered where no rule is broken.
 #[tactic(auto, unfolding(crate::specs::Check::safe_text))]
 fn acceptance(alloc: Global, plan: &Plan) -> Result<Response, AllocError>
     ensures { IfOk result (λ answer. answer ≡ done safe_text (plan_notes plan.now)) }
@@ -205,7 +199,7 @@ fn acceptance(alloc: Global, plan: &Plan) -> Result<Response, AllocError>
     Ok(Response::done(text, plan_notes(alloc, plan)?))
 }
 
-/// Answers `check TABLE DECLS CERT [--anacrontab FILE]`. The only error is out of memory.
+/// Answers `check TABLE DECLS CERT [--anacrontab FILE]`.
 pub fn answer_check<R: Threads + Sync>(
     rt: &R,
     alloc: Global,

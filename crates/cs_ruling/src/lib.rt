@@ -1,4 +1,4 @@
-//! What the checker rules on files: the answer to `check`, and the order of `run`.
+//! Answers `check`, and gives `run` its order, by what the checker rules on the files of a call.
 #![tactic(auto)]
 
 mod answer;

@@ -13,7 +13,7 @@ use cs_report::plan_notes;
 use std::alloc::{AllocError, Global};
 use std::thread::Threads;
 
-/// What is answered where the crontab was gathered.
+/// The answer where the crontab was gathered.
 pub fn refuse_gathered(alloc: Global) -> Result<Response, AllocError>
     ensures { IfOk result
         (λ r. r ≡ record { status = 3; out = []; err = complaint gathered_fault }) }
@@ -22,10 +22,9 @@ pub fn refuse_gathered(alloc: Global) -> Result<Response, AllocError>
     Response::fault(alloc, Status::BadInput, b"".as_slice(), fault)
 }
 
-/// Answers `run TABLE DECLS CERT STAMPS [--anacrontab FILE] [--minutes N] [--log FILE]
-/// [--output FOLDER] [--keep N] [--home] [--on-overrun COMMAND] [--on-failure COMMAND]`: like
-/// `check` where that doesn't answer `safe`, else with what to run, but with a fault where the
-/// crontab was gathered. The only error is out of memory.
+/// Answers `run TABLE DECLS CERT STAMPS [--anacrontab FILE] [--minutes N] [--log FILE] [--output
+/// FOLDER] [--keep N] [--home] [--on-overrun COMMAND] [--on-failure COMMAND]`: like `check` if that
+/// doesn't answer `safe`, with a fault if the crontab was gathered, else with what to run.
 pub fn answer_run<'a, R: Threads + Sync>(
     rt: &R,
     alloc: Global,

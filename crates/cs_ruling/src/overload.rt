@@ -23,7 +23,7 @@ fn windows_at(
     Ok(windows)
 }
 
-/// Adds the note on a job of which one of these windows holds the minute, if one does.
+/// Adds the note on a job, if one of these windows is its own.
 fn push_note(
     alloc: Global,
     text: &mut Vec<u8>,
@@ -54,8 +54,8 @@ fn push_note(
     text.extend_from_slice(b"\n")
 }
 
-/// A note for each job that may run at a minute at which the load is above the capacity, by the
-/// reaches of the certificate. The only error is out of memory.
+/// A note for each job that may run at the minute of an overload, by the reaches of the
+/// certificate. None for other faults.
 pub(crate) fn overload_notes(
     alloc: Global,
     plan: &Plan,

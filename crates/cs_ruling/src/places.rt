@@ -1,4 +1,4 @@
-//! Where the lines that a refusal names come from, and what is said beside it.
+//! Where the lines that a refusal names come from, and other notes on it.
 ghost use Rattle.std.specs.Prelude.{◌≡◌, ◌++◌, IfOk, OnOk};
 ghost use Rattle.cs_theorem.specs.Told.{told};
 ghost use Rattle.cs_ruling.specs.Check.{fault_places, jobs_of, stale_note, stale_text};
@@ -9,7 +9,6 @@ use cs_theorem::CheckFault;
 use cs_verdict::taker_notes;
 use std::alloc::{AllocError, Global};
 
-/// The jobs that a fault names.
 fn jobs_of(alloc: Global, fault: &CheckFault) -> Result<Vec<usize>, AllocError>
     ensures { IfOk result (λ jobs. jobs.items ≡ jobs_of (told fault.now)) }
 {
@@ -63,7 +62,6 @@ pub fn push_fault_places(
     )
 }
 
-/// Adds that the certificate may be of other files.
 #[tactic(auto, unfolding(crate::specs::Check::stale_text))]
 fn push_stale(text: &mut Vec<u8>) -> Result<(), AllocError>
     ensures { OnOk result (text.new.items ≡ text.old.items ++ stale_text) }
@@ -74,7 +72,7 @@ fn push_stale(text: &mut Vec<u8>) -> Result<(), AllocError>
     text.extend_from_slice(b"cronsafe make TABLE DECLS makes a new one\n")
 }
 
-/// Adds that where the fault is one that the certificate of other files has.
+/// Adds that the certificate may be of other files, if its fault suggests that.
 pub(crate) fn push_stale_note(text: &mut Vec<u8>, fault: &CheckFault) -> Result<(), AllocError>
     ensures { OnOk result (text.new.items ≡ text.old.items ++ stale_note (told fault.now)) }
 {

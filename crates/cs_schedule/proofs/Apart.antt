@@ -17,7 +17,6 @@ use Rattle.cs_schedule.specs.Gap.{AreApartFrom, AreDays, NoneFrom, can_be_after,
 
 -- ---- days
 
--- a kind that is in a list passes for it
 any_of : (p : Kind → Bool) (ks : List Kind) (k : Kind) → Contains ks k → p k ≡ true → list_any p ks ≡ true
 any_of p ks k (i, below, is) passes = list_any_at p ks i k below (ap p is ∙ passes)
 
@@ -48,7 +47,6 @@ after_due s r n d due later = any_of (λ day. is_day_due s day && is_day_due_aft
 
 -- ---- minutes
 
--- a minute that is in a list passes for it
 any_has : (p : ℕ → Bool) (ms : List ℕ) (m : ℕ) → has ms m ≡ true → p m ≡ true → list_any p ms ≡ true
 any_has p [] m h passes = absurd (cc)
 any_has p (x ∷ ms) m h passes =
@@ -57,7 +55,6 @@ any_has p (x ∷ ms) m h passes =
       | inr other ↦ or_right _ _ (any_has p ms m (rw other.0 at h) passes)
     ]
 
--- the minutes of a day
 range_below : (a k n : ℕ) → a + k ≤ n → All (λ m. m < n) (range_with_len a k)
 range_below a zero n h = All-nil (λ m. m < n)
 range_below a (suc k) n h = All-cons (λ m. m < n) a (range_with_len (a + 1) k) (omega arith) (range_below (a + 1) k n (omega arith))
@@ -66,7 +63,6 @@ pub in_day : (p : ℕ → Bool) → All (λ m. m < 1440) (minutes_where p)
 unfolding minutes_where
 in_day p = All-filter p (λ m. m < 1440) (range_with_len 0 1440) (range_below 0 1440 1440 (omega arith))
 
--- a list of which each passes alike
 same_any : (p q : ℕ → Bool) (ms : List ℕ) → All (λ m. m < 1440) ms → ((m : ℕ) → m < 1440 → p m ≡ q m) → list_any p ms ≡ list_any q ms
 same_any p q [] all same = refl
 same_any p q (m ∷ ms) all same =
@@ -74,12 +70,11 @@ same_any p q (m ∷ ms) all same =
     let rest = same_any p q ms (All-tail (λ k. k < 1440) m ms all) same in
     rw (one, rest) refl
 
--- a minute of the day is found among those that pass
 found : (p : ℕ → Bool) (m : ℕ) → m < 1440 → has (minutes_where p) m ≡ p m
 unfolding minutes_where
 found p m below = has-filter p 0 1440 m (omega arith) (omega arith)
 
--- a gap is met among the minutes and days that were reckoned if a minute can follow so
+-- a gap is found among the minutes and days that were computed exactly if a minute can follow so
 pub met : (s r : Times) (most : ℕ) (times later : List ℕ) (days : List Bool) (gap : ℕ) → times ≡ minutes_where (is_time_due s) → later ≡ minutes_where (is_time_due r)
     → AreDays s r most days → gap ≤ most → list_any (is_followed later days gap) times ≡ can_follow s r gap
 unfolding can_follow
@@ -116,14 +111,12 @@ are_apart s r least gap none t u due later before =
       | inr far ↦ far
     ]
 
--- what is left behind one that doesn't pass
 pub one_fewer : (p : ℕ → Bool) (ms : List ℕ) (m : ℕ) (rest : List ℕ) (b : Bool) → ms ≡ m ∷ rest → p m ≡ false → list_any p ms ≡ b → list_any p rest ≡ b
 one_fewer p ms m rest b same fails is =
     let split : list_any p ms ≡ (p m || list_any p rest) = ap (list_any p) same in
     let out : (p m || list_any p rest) ≡ list_any p rest = rw fails refl in
     sym (split ∙ out) ∙ is
 
--- none below a gap at which none can follow either
 pub one_more : (s r : Times) (least gap : ℕ) → NoneFrom s r least gap → can_follow s r gap ≡ false → NoneFrom s r least (gap + 1)
 one_more s r least gap none fails g from below =
     elim (cases_lt g gap) [

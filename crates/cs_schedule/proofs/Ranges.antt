@@ -6,7 +6,6 @@ use Rattle.std.proofs.lemmas.Bool.Decides.{eqb_tells}
 use Rattle.std.proofs.lemmas.Map.Views.{any-filter_same}
 use Rattle.cs_schedule.specs.Numbers.{has, numbers_where}
 
--- a number of the range is found in it
 pub has-range : (a k n : ℕ) → a ≤ n → n < a + k → has (range_with_len a k) n ≡ true
 has-range a zero n low high = absurd (omega arith)
 has-range a (suc k) n low high =
@@ -15,7 +14,6 @@ has-range a (suc k) n low high =
       | inr other ↦ rw other.0 (let ne = other.1 in let low' : a + 1 ≤ n = omega arith in let high' : n < (a + 1) + k = omega arith in has-range (a + 1) k n low' high')
     ]
 
--- what a filter of the range keeps
 pub has-filter : (p : ℕ → Bool) (a k n : ℕ) → a ≤ n → n < a + k → has (filter p (range_with_len a k)) n ≡ p n
 has-filter p a k n low high =
     any-filter_same (λ x. nat_eq x n) p (p n) (λ x e. ap p (eqb-true x n e)) (range_with_len a k)
@@ -25,13 +23,11 @@ has-filter p a k n low high =
     and-true true = refl
     and-true false = refl
 
--- tests that agree on the range keep the same numbers
 pub filter_same : (p q : ℕ → Bool) (a k : ℕ) → ((n : ℕ) → a ≤ n → n < a + k → p n ≡ q n) → filter p (range_with_len a k) ≡ filter q (range_with_len a k)
 filter_same p q a zero h = refl
 filter_same p q a (suc k) h =
     rw (h a (omega arith) (omega arith)) (ap (λ rest. cond (q a) (a ∷ rest) rest) (filter_same p q (a + 1) k (λ n low high. h n (omega arith) (omega arith))))
 
--- the numbers below 64 that pass a test are a set with those numbers
 pub has-numbers_where : (p : ℕ → Bool) (n : ℕ) → n < 64 → has (numbers_where p) n ≡ p n
 unfolding numbers_where
 has-numbers_where p n below = has-filter p 0 64 n (omega arith) (omega arith)
@@ -40,7 +36,7 @@ pub numbers_same : (p q : ℕ → Bool) → ((n : ℕ) → n < 64 → p n ≡ q 
 unfolding numbers_where
 numbers_same p q h = filter_same p q 0 64 (λ n low high. h n (omega arith))
 
--- which numbers below n pass, when n is looked at too
+-- which numbers below n + 1 pass, from those below n
 below_next : (test : ℕ → Bool) (n k : ℕ) → k ≢ n → (nat_lt k (n + 1) && test k) ≡ (nat_lt k n && test k)
 below_next test n k ne =
     elim (cases_lt k n) [
@@ -62,7 +58,6 @@ one_more_out test before n fails old k below =
       | inr other ↦ old k below ∙ sym (below_next test n k other.1)
     ]
 
--- no number past a range is found in it
 has-range_past : (a k n : ℕ) → a + k ≤ n → has (range_with_len a k) n ≡ false
 has-range_past a zero n past = refl
 has-range_past a (suc k) n past = rw (ne_eqb a n (λ e. absurd (omega (arith, e)))) (has-range_past (a + 1) k n (omega arith))
@@ -76,7 +71,6 @@ pub has-numbers_where_past : (p : ℕ → Bool) (n : ℕ) → 64 ≤ n → has (
 unfolding numbers_where
 has-numbers_where_past p n past = has-filter_past p 0 64 n (omega arith)
 
--- a test that nothing passes
 pub filter_nothing : (p : ℕ → Bool) (a k : ℕ) → ((n : ℕ) → a ≤ n → n < a + k → p n ≡ false) → filter p (range_with_len a k) ≡ []
 filter_nothing p a zero h = refl
 filter_nothing p a (suc k) h = rw (h a (omega arith) (omega arith)) (filter_nothing p (a + 1) k (λ n low high. h n (omega arith) (omega arith)))

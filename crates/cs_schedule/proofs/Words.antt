@@ -38,7 +38,6 @@ put_bit words m len below k =
       | inr other ↦ rw other.0 (bit_other words m k len below other.1)
     ]
 
--- one more number of the range
 pub filter_more : (p : ℕ → Bool) (a k j : ℕ) → a + k ≡ j → filter p (range_with_len a (suc k)) ≡ filter p (range_with_len a k) ++ cond (p j) (j ∷ []) []
 filter_more p a zero j e = let same : a ≡ j = omega arith in rw same (nothing (p j))
   where
@@ -51,7 +50,6 @@ filter_more p a (suc k) j e = ap (λ rest. cond (p a) (a ∷ rest) rest) (filter
     regroup true = refl
     regroup false = refl
 
--- how many of the first minutes are in, with one more
 pub count_more : (p : ℕ → Bool) (k : ℕ) → length (filter p (range_with_len 0 (k + 1))) ≡ length (filter p (range_with_len 0 k)) + cond (p k) 1 0
 count_more p k = let one-more : k + 1 ≡ suc k = omega arith in ap (λ n. length (filter p (range_with_len 0 n))) one-more ∙ ap length (filter_more p 0 k k (omega arith)) ∙ length-append (filter p (range_with_len 0 k)) (cond (p k) (k ∷ []) []) ∙ ap (λ n. length (filter p (range_with_len 0 k)) + n) (one (p k))
   where
@@ -59,7 +57,6 @@ count_more p k = let one-more : k + 1 ≡ suc k = omega arith in ap (λ n. lengt
     one true = refl
     one false = refl
 
--- the front of a filter of the last n numbers of a range
 pub filter_next : (p : ℕ → Bool) (a n : ℕ) → a < n → filter p (range_with_len a (n - a)) ≡ cond (p a) (a ∷ []) [] ++ filter p (range_with_len (a + 1) (n - (a + 1)))
 filter_next p a n below = let one-more : n - a ≡ suc (n - (a + 1)) = omega arith in rw one-more (front (p a))
   where
@@ -70,7 +67,6 @@ filter_next p a n below = let one-more : n - a ≡ suc (n - (a + 1)) = omega ari
 pub filter_none : (p : ℕ → Bool) (a n : ℕ) → n ≤ a → filter p (range_with_len a (n - a)) ≡ []
 filter_none p a n above = let none : n - a ≡ 0 = omega arith in rw none refl
 
--- the minutes from one on, by whether it is in
 pub minutes_in_next : (words : List ℕ) (n : ℕ) → n < 1440 → is_in words n ≡ true → minutes_from words n ≡ n ∷ minutes_from words (n + 1)
 unfolding minutes_from
 minutes_in_next words n below e = filter_next (is_in words) n 1440 below ∙ rw e refl
@@ -88,11 +84,9 @@ zero_at zero i = refl
 zero_at (suc n) zero = refl
 zero_at (suc n) (suc i) = zero_at n i
 
--- no minute is in at first
 pub none_in : (k : ℕ) → is_in (replicate 23 0) k ≡ false
 none_in k = rw (zero_at 23 (k / 64), bit_at-zero (k % 64)) refl
 
--- one bit more in a word
 pub put_in : (word n k : ℕ) → n < 64 → has_bit (bit_or word (1 * 2 ^ n % 2 ^ 64)) k ≡ (nat_eq k n || has_bit word k)
 put_in word n k below =
     elim (eqb_tells k n) [
@@ -106,6 +100,5 @@ either zero (suc b) p q = let e : b ≡ 0 = omega arith in rw e refl
 either (suc a) zero p q = let e : a ≡ 0 = omega arith in rw e refl
 either (suc a) (suc b) p q = let e : a ≡ 0 = omega arith in let f : b ≡ 0 = omega arith in rw (e, f) refl
 
--- the bits of both words
 pub either_in : (v w k : ℕ) → has_bit (bit_or v w) k ≡ (has_bit v k || has_bit w k)
 either_in v w k = rw bit_at_or (either (bit_at v k) (bit_at w k) (bit_at-lt v k) (bit_at-lt w k))

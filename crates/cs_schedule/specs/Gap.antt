@@ -8,17 +8,16 @@ use Rattle.cs_schedule.specs.Minutes.{minutes_where}
 use Rattle.cs_schedule.specs.Numbers.{has}
 use Rattle.cs_schedule.specs.Times.{Times, is_day_due, is_due, is_time_due}
 
--- due at this minute
 abbrev pub is_due_at : Times → ℕ → Bool
 is_due_at s t = is_due s (kind (t / 1440)) (t % 1440)
 
--- from a minute at which it is due to a later one there are so many minutes at least
+-- from each due minute to a later one there are at least so many minutes
 abbrev pub AreApart : Times → ℕ → Type 0
 AreApart s gap =
     (t u : ℕ) → is_due_at s t ≡ true → is_due_at s u ≡ true → t < u → t + gap ≤ u
 
--- from a minute at which the first is due to one at which the second is there are so many minutes
--- at least, if there are `least`
+-- from each due minute of the first to one of the second that is at least `least` minutes later,
+-- there are at least so many minutes
 abbrev pub AreApartFrom : Times → Times → ℕ → ℕ → Type 0
 AreApartFrom s r least gap =
     (t u : ℕ) → is_due_at s t ≡ true → is_due_at r u ≡ true → t + least ≤ u → t + gap ≤ u
@@ -34,21 +33,21 @@ is_day_due_after s (suc n) day = list_any (is_day_due_after s n) (kinds_after da
 unfoldable pub can_be_after : Times → Times → ℕ → Bool
 can_be_after s r n = list_any (λ day. is_day_due s day && is_day_due_after r n day) all_kinds
 
--- a minute of the second can come so many minutes after one of the first
+-- a due minute of the second can come so many minutes after one of the first
 unfoldable pub can_follow : Times → Times → ℕ → Bool
 can_follow s r gap = list_any
     (λ m. can_be_after s r ((m + gap) / 1440) && is_time_due r ((m + gap) % 1440))
     (minutes_where (is_time_due s))
 
--- and in no fewer, from this number on
+-- and in no fewer, from `least` on
 abbrev pub NoneFrom : Times → Times → ℕ → ℕ → Type 0
 NoneFrom s r least gap = (g : ℕ) → least ≤ g → g < gap → can_follow s r g ≡ false
 
--- two minutes at which it is due can be so many minutes apart
+-- two due minutes can be so many minutes apart
 abbrev pub can_be_apart : Times → ℕ → Bool
 can_be_apart s gap = can_follow s s gap
 
--- and at no fewer
+-- and no fewer
 abbrev pub NoneBelow : Times → ℕ → Type 0
 NoneBelow s gap = NoneFrom s s 1 gap
 

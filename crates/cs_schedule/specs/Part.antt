@@ -3,7 +3,6 @@ use Rattle.std.specs.Prelude.{ℕ}
 use Rattle.cs_schedule.specs.declared.part.Part.{Part}
 use Rattle.cs_schedule.specs.declared.part.Part.TheVariants.{Minute, Hour, Dom, Month, Dow}
 
--- the first number that may be written
 abbrev pub first_of : Part → ℕ
 first_of Minute = 0
 first_of Hour = 0
@@ -11,7 +10,7 @@ first_of Dom = 1
 first_of Month = 1
 first_of Dow = 0
 
--- the last number that may be written: 0 and 7 are both Sunday
+-- 0 and 7 are both Sunday
 abbrev pub last_of : Part → ℕ
 last_of Minute = 59
 last_of Hour = 23

@@ -11,7 +11,6 @@ pub record Choice : Type 0 where
   pub star : Bool
   pub numbers : List ℕ
 
--- the five fields
 pub record Times : Type 0 where
   pub minute : Choice
   pub hour : Choice
@@ -38,11 +37,9 @@ last_held Dom = 31
 last_held Month = 12
 last_held Dow = 6
 
--- each number is one that the field can hold
 abbrev pub IsWithin : Part → List ℕ → Type 0
 IsWithin part numbers = All (λ n. (first_of part ≤ n) × (n ≤ last_held part)) numbers
 
--- each field has numbers of its range alone
 pub record IsPossible (s : Times) : Type 0 where
   pub minute : IsWithin Minute s.minute.numbers
   pub hour : IsWithin Hour s.hour.numbers
@@ -50,12 +47,12 @@ pub record IsPossible (s : Times) : Type 0 where
   pub month : IsWithin Month s.month.numbers
   pub dow : IsWithin Dow s.dow.numbers
 
--- The hour and the minute of the hour are listed.
+-- the hour and the minute of the hour are listed
 abbrev pub is_time_due : Times → ℕ → Bool
 is_time_due s minute = has s.hour.numbers (minute / 60) && has s.minute.numbers (minute % 60)
 
--- The month is listed, and the day of the month and the weekday are;
--- where neither of these two fields begins with `*`, one of the two is enough.
+-- The month is listed, and so are the day of the month and the weekday; if neither of these two
+-- fields begins with `*`, one of the two is enough.
 abbrev pub is_day_due : Times → Kind → Bool
 is_day_due s day =
     has s.month.numbers day.month

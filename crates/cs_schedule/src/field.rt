@@ -4,7 +4,7 @@ ghost use Rattle.cs_schedule.specs.Numbers.{has};
 use crate::numbers::Numbers;
 use std::marker::Model;
 
-/// A time and date field: its numbers, and whether it begins with `*` and so restricts nothing.
+/// A time and date field: its numbers, and whether its text begins with `*`.
 #[derive(Drop)]
 pub struct Field {
     starred: bool,
@@ -40,7 +40,7 @@ impl Field {
         }
     }
 
-    /// Checks whether its text begins with `*`.
+    /// Whether its text begins with `*`.
     pub fn begins_with_star(&self) -> bool
         ensures { result ≡ self.now.star }
     {
@@ -54,7 +54,7 @@ impl Field {
         &self.chosen
     }
 
-    /// Checks whether the number is one of its numbers.
+    /// Whether the number is one of its numbers.
     pub fn has(&self, number: u8) -> bool
         ensures { result ≡ has self.now.numbers number }
     {

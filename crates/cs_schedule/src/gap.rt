@@ -1,5 +1,5 @@
-//! The fewest minutes from a minute at which a command is due to one at which it or another one is,
-//! over all days that can follow one another.
+//! Finds the fewest minutes from a minute at which a command is due to one at which it or another
+//! one is, over all days that can follow one another.
 ghost use Rattle.std.specs.Prelude.{◌≡◌, ◌+◌, ◌*◌, ◌<◌, ◌≤◌, true, All, IfSome, unwrap_or};
 ghost use Rattle.std.specs.List.{list_any};
 ghost use Rattle.cs_civil.specs.declared.minute.TheConstants.{MINUTES_OF_DAY};
@@ -11,13 +11,13 @@ use crate::minute_set::MinuteSet;
 use crate::schedule::Schedule;
 use cs_civil::{DayKind, MINUTES_OF_DAY, all_kinds, next_kinds};
 
-/// The longest gap that is looked for between due minutes of one command: three days.
+/// The longest gap that [`least_gap`] looks for: three days.
 pub const MAX_GAP: u16 = 4_320;
 
-/// The longest that can be looked for between those of two commands: six days.
+/// The longest distance that [`least_distance`] may look for: six days.
 pub const MAX_DISTANCE: u16 = 8_640;
 
-/// Whether a day on which the command is due can come so many days after a day of this kind.
+/// Whether the command can be due so many days after a day of this kind.
 fn is_day_due_after(schedule: &Schedule, kind: DayKind, days: u8) -> bool
     ensures { result ≡ is_day_due_after schedule.now days kind }
 {
@@ -33,7 +33,6 @@ fn is_day_due_after(schedule: &Schedule, kind: DayKind, days: u8) -> bool
     false
 }
 
-/// Whether a day of the second command can come so many days after one of the first.
 fn can_be_after(first: &Schedule, second: &Schedule, days: u8) -> bool
     ensures { result ≡ can_be_after first.now second.now days }
 {
@@ -45,7 +44,7 @@ fn can_be_after(first: &Schedule, second: &Schedule, days: u8) -> bool
     false
 }
 
-/// Whether it can, if a distance of so many minutes reaches as far.
+/// The same, if a distance of so many minutes reaches as far.
 fn can_be_reached(first: &Schedule, second: &Schedule, days: u8, most: u16) -> bool
     requires { (days ≤ 6) × (most ≤ MAX_DISTANCE) }
     ensures { days * MINUTES_OF_DAY < most + MINUTES_OF_DAY
@@ -54,8 +53,7 @@ fn can_be_reached(first: &Schedule, second: &Schedule, days: u8, most: u16) -> b
     u16::from(days) * MINUTES_OF_DAY < most + MINUTES_OF_DAY && can_be_after(first, second, days)
 }
 
-/// How many days later there can be a day of the second command, for each number of days from 0
-/// that a distance of so many minutes reaches.
+/// The days later, as far as so many minutes reach, on which the second command can be due.
 fn days_between(first: &Schedule, second: &Schedule, most: u16) -> [bool; 7]
     requires { most ≤ MAX_DISTANCE }
     ensures { AreDays first.now second.now most result }
@@ -71,7 +69,6 @@ fn days_between(first: &Schedule, second: &Schedule, most: u16) -> [bool; 7]
     ]
 }
 
-/// Whether so many minutes after this one there is one of the set, on a day that can come.
 fn is_followed(times: &MinuteSet, days: &[bool; 7], gap: u16, minute: u16) -> bool
     requires { minute + gap < 10080 }
     ensures { result ≡ is_followed times.now days.now gap minute }
@@ -80,7 +77,6 @@ fn is_followed(times: &MinuteSet, days: &[bool; 7], gap: u16, minute: u16) -> bo
     days[usize::from(later / MINUTES_OF_DAY)] && times.has(later % MINUTES_OF_DAY)
 }
 
-/// Whether a minute of the first set is followed so by one of the second.
 fn is_met(first: &MinuteSet, second: &MinuteSet, days: &[bool; 7], gap: u16) -> bool
     requires gap { gap ≤ MAX_DISTANCE }
     requires day { All (λ minute. minute < MINUTES_OF_DAY) first.now }
@@ -95,8 +91,7 @@ fn is_met(first: &MinuteSet, second: &MinuteSet, days: &[bool; 7], gap: u16) -> 
 }
 
 /// Returns the fewest minutes, from `least` to `most`, from a minute at which the first command is
-/// due to one at which the second is: none if there are no two such minutes. `most` is at most
-/// [`MAX_DISTANCE`].
+/// due to one at which the second is; `None` if there are no two such minutes.
 pub fn least_distance(first: &Schedule, second: &Schedule, least: u16, most: u16) -> Option<u16>
     requires { most ≤ MAX_DISTANCE }
     ensures in_range { IfSome result (λ gap. (least ≤ gap) × (gap ≤ most)) }
@@ -116,7 +111,7 @@ pub fn least_distance(first: &Schedule, second: &Schedule, least: u16, most: u16
 }
 
 /// Returns the fewest minutes from a minute at which the command is due to the next one, up to
-/// [`MAX_GAP`]: none if it is never due, or if any two are further apart.
+/// [`MAX_GAP`]; `None` if it is never due, or if any two are further apart.
 pub fn least_gap(schedule: &Schedule) -> Option<u16>
     ensures met { IfSome result (λ gap. can_be_apart schedule.now gap ≡ true) }
     ensures least { NoneBelow schedule.now (unwrap_or result (MAX_GAP + 1)) }

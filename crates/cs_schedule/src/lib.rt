@@ -1,4 +1,4 @@
-//! When a command of a crontab is due.
+//! Decides when a command of a crontab is due, and how soon after that it is due again.
 #![tactic(auto)]
 
 mod field;

@@ -8,7 +8,7 @@ use crate::numbers::Numbers;
 use std::iter::FusedIterator;
 use std::marker::Model;
 
-/// The minutes of a block. A day has 45 blocks, from 0 for the one that begins at 00:00.
+/// A day has 45 blocks, from 0 for the one that begins at 00:00.
 pub const MINUTES_OF_BLOCK: u16 = 32;
 
 /// Minutes of a day, from 0 for 00:00 to 1,439 for 23:59, a bit each.
@@ -26,7 +26,6 @@ impl Model for MinuteSet {
     ghost view = { λ s. minutes_in s.words };
 }
 
-/// Sets the bit of a minute.
 fn put(words: &mut [u64; 23], minute: u16)
     requires { minute < 1440 }
     ensures { (k : ℕ) → k < 1440 → is_in words.new k ≡ (nat_eq k minute || is_in words.old k) }
@@ -35,7 +34,6 @@ fn put(words: &mut [u64; 23], minute: u16)
     words[place] |= 1u64 << (minute % 64);
 }
 
-/// Sets the bits of the minutes of an hour that are among the numbers.
 fn put_hour(words: &mut [u64; 23], hour: u8, numbers: &Numbers)
     requires { hour < 24 }
     ensures { (k : ℕ) → k < 1440
@@ -56,7 +54,7 @@ fn is_set(words: &[u64; 23], minute: u16) -> bool
     (words[(minute / 64) as usize] >> (minute % 64)) & 1 == 1
 }
 
-/// The index of the lowest bit set, or 64 if there is none.
+/// The index of the lowest bit set; 64 if there is none.
 fn lowest_bit(word: u64) -> u16
     ensures within { result ≤ 64 }
     ensures out { (i : ℕ) → i < result → bit_at word i ≡ 0 }
@@ -65,7 +63,7 @@ fn lowest_bit(word: u64) -> u16
     word.trailing_zeros() as u16
 }
 
-/// The first minute from this one on that is set in the same word, else the word's last.
+/// The first minute from this one on that is set in the same word; else the word's last.
 fn near(words: &[u64; 23], minute: u16) -> u16
     requires { minute < 1440 }
     ensures from { minute ≤ result }
@@ -80,7 +78,6 @@ fn near(words: &[u64; 23], minute: u16) -> u16
     (minute + clear).min(last)
 }
 
-/// Whether the words at this place have the same minutes of a day.
 fn is_alike(words: &[u64; 23], others: &[u64; 23], place: u16) -> bool
     requires { place < 23 }
     ensures { IsTrue result
@@ -98,7 +95,6 @@ impl MinuteSet {
         MinuteSet { words: [0; 23] }
     }
 
-    /// The minutes of a day whose hour and whose minute of the hour are among the numbers.
     pub(crate) fn of_times(hours: &Numbers, minutes: &Numbers) -> MinuteSet
         ensures { result ≡ minutes_where (λ k. has hours.now (k / 60) && has minutes.now (k % 60)) }
     {
@@ -119,15 +115,15 @@ impl MinuteSet {
         put(&mut self.words, minute);
     }
 
-    /// Checks whether the minute is one of the set: false from 1,440 on.
+    /// Whether the minute is one of the set: false from 1,440 on.
     pub fn has(&self, minute: u16) -> bool
         ensures { result ≡ has self.now minute }
     {
         minute < 1_440 && is_set(&self.words, minute)
     }
 
-    /// Returns the minutes of this block that are in the set, a bit each, the lowest for the minute
-    /// `MINUTES_OF_BLOCK * block`: 0 from block 45 on.
+    /// Returns the minutes of this block that are in the set, a bit each, the lowest for minute
+    /// `MINUTES_OF_BLOCK * block`; 0 from block 45 on.
     pub fn bits_of_block(&self, block: u16) -> u32
         ensures { (place : ℕ) → place < MINUTES_OF_BLOCK
             → has_bit result place ≡ has self.now (MINUTES_OF_BLOCK * block + place) }
@@ -155,14 +151,14 @@ impl MinuteSet {
         count
     }
 
-    /// Checks whether there are none.
+    /// Whether there are none.
     pub fn is_empty(&self) -> bool
         ensures { IsTrue result ↔ (self.now ≡ []) }
     {
         self.len() == 0
     }
 
-    /// Checks whether both sets have the same minutes.
+    /// Whether both sets have the same minutes.
     pub fn is_same(&self, other: &MinuteSet) -> bool
         ensures { IsTrue result ↔ ((m : ℕ) → m < 1440 → has self.now m ≡ has other.now m) }
     {

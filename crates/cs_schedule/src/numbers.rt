@@ -18,7 +18,6 @@ impl Model for Numbers {
     ghost view = { λ s. numbers_in s.word };
 }
 
-/// The word with one bit more.
 fn put(word: u64, number: u8) -> u64
     requires { number < 64 }
     ensures { (k : ℕ) → k < 64 → has_bit result k ≡ (nat_eq k number || has_bit word k) }
@@ -78,7 +77,7 @@ impl Numbers {
         }
     }
 
-    /// Returns the weekdays among them, from 0 for Sunday: 7 is 0 too.
+    /// Returns the weekdays among them, from 0 for Sunday; 7 counts as 0.
     pub fn in_week(&self) -> Numbers
         ensures value { result ≡ in_week self.now }
         ensures within { All (λ n. n ≤ 6) result }
@@ -92,7 +91,7 @@ impl Numbers {
         Numbers { word }
     }
 
-    /// Checks whether the number is one of these.
+    /// Whether the number is one of these.
     pub fn has(&self, number: u8) -> bool
         ensures { result ≡ has self.now number }
     {

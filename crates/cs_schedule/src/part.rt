@@ -28,7 +28,7 @@ impl Part {
         }
     }
 
-    /// Returns the greatest number that may be written: for weekdays 7, another Sunday.
+    /// Returns the greatest number that may be written: for weekdays 7, which is Sunday too.
     pub fn last(self) -> u8
         ensures { result ≡ last_of self }
     {

@@ -62,7 +62,7 @@ impl Schedule {
         }
     }
 
-    /// Returns one of its fields, with numbers in its range, weekdays from 0 for Sunday to 6.
+    /// Returns one of its fields; weekdays are from 0 for Sunday to 6.
     pub fn field(&self, part: Part) -> &Field
         ensures value { result.now ≡ choice_of self.now part }
         ensures within { IsWithin part (choice_of self.now part).numbers }
@@ -76,7 +76,7 @@ impl Schedule {
         }
     }
 
-    /// Checks whether the command is due on days of this kind, at the minutes of
+    /// Whether the command is due on days of this kind, at the minutes of
     /// [`times`](Schedule::times).
     pub fn is_day_due(&self, kind: DayKind) -> bool
         ensures { result ≡ is_day_due self.now kind }
@@ -91,14 +91,14 @@ impl Schedule {
         self.month.has(kind.month()) && day
     }
 
-    /// Checks whether the command is due at this minute.
+    /// Whether the command is due at this minute.
     pub fn matches(&self, minute: Minute) -> bool
         ensures { result ≡ is_due self.now (kind (minute / 1440)) (minute % 1440) }
     {
         self.is_due_on(kind_of(minute.day()), minute.minute_of_day())
     }
 
-    /// Checks whether the command is due at this minute, from 0, of a day of this kind.
+    /// Whether the command is due at this minute, from 0, of a day of this kind.
     pub fn is_due_on(&self, kind: DayKind, minute_of_day: u16) -> bool
         requires { minute_of_day < 1440 }
         ensures { result ≡ is_due self.now kind minute_of_day }
@@ -108,7 +108,7 @@ impl Schedule {
             && self.is_day_due(kind)
     }
 
-    /// Returns the minutes, from 0 to 1,439, at which the command is due on each day it is due.
+    /// Returns the minutes, from 0 to 1,439, at which the command is due on each of its days.
     pub fn times(&self) -> MinuteSet
         ensures { result ≡ minutes_where (is_time_due self.now) }
     {

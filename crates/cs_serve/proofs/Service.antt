@@ -41,7 +41,6 @@ counted : (checked : Checked) (before after : Tellings) (end : DaemonEnd) → Ha
 counted checked before after end run =
     counted_by checked end end.shares.items refl run.threads (run.shares ∙ in_keep end.keep end.total run.none run.total)
 
--- the first share is at most all of them
 first_share : (xs : List ℕ) → slice_index_or xs 0 0 ≤ sum xs
 first_share [] = omega arith
 first_share (x ∷ xs) = let e = sum_by-cons (λ n. n) x xs in omega (arith, e)
@@ -49,7 +48,6 @@ first_share (x ∷ xs) = let e = sum_by-cons (λ n. n) x xs in omega (arith, e)
 -- ---- the journal
 
 module _ (p : Plan) where
-  -- a history that is safe was so before
   safe_before : (h : History) (es : List (Event × Reply)) → IsSafe p (fold (λ h e. h ▸ e.0) h es) → IsSafe p h
   safe_before h [] safe = safe
   safe_before h (e ∷ es) safe = (safe_before (h ▸ e.0) es safe).0
@@ -86,7 +84,7 @@ pub served_journal : (a : AskedRun) (x : Claimed) (order : Order) (old new : Sin
 served_journal a x order old new status ordered s =
     kept_by order.checked s.1.end.keep ordered.accepted.safe.headline s.1.run.same s.1.run.kept
 
--- so it is of what comes behind an order
+-- so it is of what follows an order
 pub next_journal : (a : AskedRun) (order : Order) (old new : Sink) (status : ℕ) → IsOrderOf a order → (s : IsServed order old new status) → IfSome s.1.end.keep (λ kept. IsOrdered order.checked (keeping_in kept))
 next_journal a order old new status ordered s = kept_by order.checked s.1.end.keep ordered.headline s.1.run.same s.1.run.kept
 

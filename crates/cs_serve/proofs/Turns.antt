@@ -1,4 +1,4 @@
--- Orders that come one behind another.
+-- Orders that come one after another.
 use Rattle.std.proofs.Common.{◌≡◌, ◌∙◌, ℕ, List, [], ap, inl, inr, refl, subst}
 use Rattle.cs_args.specs.Asked.{asked_run, AskedRun}
 use Rattle.cs_ruling.specs.declared.answer.Order.{Order}
@@ -14,13 +14,12 @@ pub followed : (order : Order) (old new : Sink) (cause : Cause) (status : ℕ) (
 followed order old new cause status a next served by is (stopped, ordered) =
     (subst (λ (n : ℕ). IsServedBehind order old new n) (by ∙ ap cause_status stopped) served, subst (λ (b : AskedRun). IsOrderOf b next) is ordered)
 
--- the order isn't served
 pub refused : (obstacle : Obstacle) (order : Order) (out-old out-new err-old err-new : Sink) (status : ℕ) → Refuses obstacle order out-old out-new err-old err-new status
     → ServesOne order out-old out-new err-old err-new status
 refused obstacle order out-old out-new err-old err-new status (inl told) = inl (obstacle, told)
 refused obstacle order out-old out-new err-old err-new status (inr ran) = inr (inl ran)
 
--- an order behind others
+-- an order after others
 pub last_of : (first : Order) (out-old out-new err-old err-new : Sink) (status : ℕ) (earlier : List Order) (order : Order) (out err : Sink)
     → ComesBehind first out-old err-old earlier order out err → ServesOne order out out-new err err-new status → Serves first out-old out-new err-old err-new status
 last_of first out-old out-new err-old err-new status earlier order out err turns one =

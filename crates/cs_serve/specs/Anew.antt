@@ -1,4 +1,4 @@
--- What is ordered when a daemon has read its files anew.
+-- What is ordered when a daemon has read its files again.
 use Rattle.std.specs.Prelude.{◌≡◌, ℕ, false, List, ◌++◌, codes}
 use Rattle.cs_args.specs.Asked.{asked_run, AskedRun}
 use Rattle.cs_claims.specs.Certificate.{content}
@@ -13,15 +13,15 @@ use Rattle.cs_report.specs.Warning.{plan_notes, warnings}
 use Rattle.cs_serve.specs.declared.anew.Rejection.{Rejection}
 use Rattle.cs_serve.specs.declared.anew.Rejection.TheVariants.{Answered, NoFile, NoLog, NoMemory, NoOutput, StandardInput}
 
--- these words order it: the checker has accepted its plan, so that each legal history of that is safe,
--- and its crontab wasn't gathered; of what its files held then nothing is said
+-- these words order it: the checker has accepted its plan, so that each legal history of that is
+-- safe, and its crontab wasn't gathered; of what its files held then nothing is said
 pub record IsOrderOf (a : AskedRun) (order : Order) : Type 0 where
   pub words : asked_run order.words ≡ a
   pub headline : IsHeadline (as_plan (plan_in order.checked))
   pub own : is_of_gathered order.checked ≡ false
 
--- what is accepted of what files hold: their plan and their certificate, with the digests of the files,
--- and what is to be warned of, with the notes on the plan after it
+-- what is accepted of files: their plan and their certificate, the digests of the files, and the
+-- warnings, with the notes on the plan after them
 pub record IsTaken (x : Claimed) (checked : Checked) (taken : Digests) (warned : List ℕ)
     : Type 0 where
   pub plan : plan_in checked ≡ x.planned.plan
@@ -39,7 +39,7 @@ rejected_status NoLog = 6
 rejected_status NoOutput = 6
 rejected_status NoMemory = 5
 
--- what is said of it: of an answer what it has for standard error, and then the rest
+-- what is written of it: of an answer first what it has for standard error
 abbrev pub rejected_text : Rejection → List ℕ
 rejected_text (Answered ending) = ending.err ++ ending.out
 rejected_text StandardInput = codes "cronsafe: can't read standard input again\n"

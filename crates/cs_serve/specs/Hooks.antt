@@ -1,10 +1,9 @@
--- The commands of the operator's that are started at what happens to a run.
+-- Hooks: commands of the operator's that are started at what happens to a run.
 use Rattle.std.specs.Prelude.{ℕ, Bool, if◌then◌else◌, List, [], ◌∷◌, ◌++◌, codes, Option}
 use Rattle.cs_args.specs.Asked.{AskedRun}
 use Rattle.cs_machine.specs.declared.hook_call.HookCall.{HookCall}
 use Rattle.cs_machine.specs.declared.hook_call.HookCall.TheVariants.{Failure, Overrun}
 
--- the command for a call, if there is one
 abbrev pub hook_command : AskedRun → HookCall → Option (List ℕ)
 hook_command a (Overrun run peers) = a.on_overrun
 hook_command a (Failure run status) = a.on_failure
@@ -18,7 +17,6 @@ hook_variables (Failure run status) =
     (codes "CRONSAFE_EVENT", codes "failure") ∷ (codes "CRONSAFE_RUN", run)
     ∷ (codes "CRONSAFE_STATUS", status) ∷ []
 
--- the line of a log, by whether the command was started
 abbrev pub hook_line : List ℕ → Bool → List ℕ
 hook_line command is_started =
     codes "outside of the plan: "

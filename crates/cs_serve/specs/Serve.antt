@@ -22,7 +22,7 @@ use Rattle.cs_files.specs.Ending.{Ends, Sink, Tries}
 use Rattle.cs_serve.specs.declared.obstacle.Obstacle.{Obstacle}
 use Rattle.cs_serve.specs.declared.obstacle.Obstacle.TheVariants.{InUse, NoFolder, NoHome, NoLog, NoOutput, RequestStays, Unlocked}
 
--- what is said where an order isn't served, in front of a path
+-- why an order isn't served, before a path
 abbrev pub in_front : Obstacle → List ℕ
 in_front NoFolder = codes "no folder "
 in_front InUse = codes "another daemon uses "
@@ -86,7 +86,6 @@ pub record HasRun (checked : Checked) (before after : Tellings) (end : DaemonEnd
   pub failed : end.cause ≡ ClockFailed → before.clock_failures < after.clock_failures
   pub faults : end.stamp_faults + before.stamp_failures ≤ after.stamp_failures
 
--- the status by why the daemon ended
 abbrev pub cause_status : Cause → ℕ
 cause_status Stopped = 0
 cause_status LastMinute = 0
@@ -95,7 +94,7 @@ cause_status ClockFailed = 6
 cause_status HistoryFull = 1
 cause_status NoMemory = 5
 
--- what is said of it, where it isn't that the clock stopped
+-- what is written of it, unless the clock stopped
 abbrev pub farewell : Cause → List ℕ
 farewell Stopped = []
 farewell LastMinute = codes "cronsafe: the last minute of 9999 has come\n"
@@ -104,8 +103,8 @@ farewell ClockFailed = codes "cronsafe: can't read the clock\n"
 farewell HistoryFull = codes "cronsafe: the history is full\n"
 farewell NoMemory = codes "cronsafe: out of memory\n"
 
--- the daemon is run with these devices until it ends, and why it ended is reported and is the status; of
--- what it writes to standard output nothing is said
+-- the daemon is run with these devices until it ends, and why it ended is reported and is the
+-- status; of what it writes to standard output nothing is said
 pub record IsServedBy (checked : Checked) (before after : Tellings) (err-old err-new : Sink)
     (status : ℕ) : Type 0 where
   pub end : DaemonEnd
@@ -135,8 +134,8 @@ Refuses obstacle order out-old out-new err-old err-new status =
     Ends (unserved obstacle order) out-old out-new err-old err-new status
     ⊎ ((out-new ≡ out-old) × RunsOutBehind order err-old err-new status)
 
--- it isn't served, which is reported after the warnings; or memory ran out, and nothing is run; or it was
--- run
+-- it isn't served, which is reported after the warnings; or memory ran out, and nothing is run; or
+-- it was run
 abbrev pub ServesOne : Order → Sink → Sink → Sink → Sink → ℕ → Type 0
 ServesOne order out-old out-new err-old err-new status =
     ((obstacle : Obstacle)
@@ -149,7 +148,7 @@ abbrev pub IsNextOf : Cause → AskedRun → Order → Type 0
 IsNextOf cause a next = (cause ≡ Stopped) × IsOrderOf a next
 
 -- an order was served until its daemon stopped, and is followed by what its words order when its
--- files are read anew
+-- files are read again
 abbrev pub IsFollowed : Order → Sink → Sink → Order → Type 0
 IsFollowed order err-old err-new next =
     IsServedBehind order err-old err-new 0 × IsOrderOf (asked_run order.words) next

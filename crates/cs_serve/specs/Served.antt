@@ -56,8 +56,9 @@ pub record IsOrdered (checked : Checked) (k : Keeping) : Type 0 where
 
 -- ---- by the status
 
--- The clock said to stop: each minute later than all before but the first brought an event, so there
--- is a keep if there was a second. Or the last minute has come, which is reported, and there is a keep.
+-- The clock said to stop: each minute later than all before but the first brought an event, so
+-- there is a keep if there was a second. Or the last minute has come, which is reported, and there
+-- is a keep.
 abbrev pub IsDone : Tellings → DaemonEnd → Sink → Sink → Type 0
 IsDone after end old new =
     ((after.last ≡ Some Stop) × (after.risen ≤ events_in end.keep + 1)

@@ -1,4 +1,4 @@
-//! Reading a daemon's files anew.
+//! Reading a daemon's files again.
 ghost use Rattle.std.specs.Prelude.{◌≡◌, ◌++◌, IfOk, false};
 ghost use Rattle.cs_args.specs.Asked.{asked_run};
 ghost use Rattle.cs_ruling.specs.Answer.{is_of_gathered};
@@ -21,11 +21,11 @@ use std::fs::OpenOptions;
 use std::rt::Files;
 use std::{fs, io};
 
-/// A plan that the checker has accepted, what is to be warned of, and the SHA-256 of its files.
+/// A plan that the checker has accepted, its warnings, and the SHA-256 of its files.
 #[derive(Drop)]
 pub(crate) struct Accepted {
     checked: Checked,
-    /// What is to be warned of, and after it the notes on the plan.
+    /// The warnings of the tables, and after them the notes on the plan.
     pub(crate) warnings: Bytes,
     digests: Digests,
     ghost own: { is_of_gathered checked ≡ false },
@@ -34,17 +34,14 @@ pub(crate) struct Accepted {
 /// Why a daemon's files aren't accepted.
 #[derive(Drop)]
 pub(crate) enum Rejection {
-    /// It was answered so.
+    /// For the reason in this answer.
     Answered(Response),
     /// One of them is standard input.
     StandardInput,
     /// One of them is a pipe, a device or a folder.
     NoFile,
-    /// The log can't be opened.
     NoLog,
-    /// The folder for what jobs print isn't there.
     NoOutput,
-    /// Memory ran out.
     NoMemory,
 }
 
@@ -63,7 +60,7 @@ impl Rejection {
         }
     }
 
-    /// What is said then, one text after another.
+    /// What `reload` writes then, one text after another.
     pub(crate) fn texts(&self) -> (&[u8], &[u8])
         ensures { result.0.now ++ result.1.now ≡ rejected_text self.now }
     {
@@ -94,7 +91,7 @@ impl Rejection {
     }
 }
 
-/// Whether these aren't all files, as far as they are there. A pipe would hold the daemon up.
+/// Whether one of these is there and isn't a file. A pipe would hold the daemon up.
 fn has_no_files<R: Files>(rt: &R, paths: &[&str]) -> bool {
     for path in paths {
         if let Ok(found) = fs::metadata(rt, *path) {
@@ -106,7 +103,6 @@ fn has_no_files<R: Files>(rt: &R, paths: &[&str]) -> bool {
     false
 }
 
-/// Opens a log, at whose end is written.
 pub(crate) fn open_log<R: Files>(rt: &R, path: &str) -> io::Result<R::File> {
     OpenOptions::new().append(true).create(true).open(rt, path)
 }
@@ -119,7 +115,7 @@ fn has_log<R: Files>(rt: &R, log: Option<&str>) -> bool {
     }
 }
 
-/// Whether the folder for what jobs print is there, if there is to be one.
+/// Whether the folder for the output of jobs is there, if one is given.
 pub(crate) fn has_output<R: Files>(rt: &R, output: Option<&str>) -> bool {
     let Some(path) = output else {
         return true;
@@ -130,7 +126,6 @@ pub(crate) fn has_output<R: Files>(rt: &R, output: Option<&str>) -> bool {
     }
 }
 
-/// The files aren't accepted, as this answers.
 fn rejected_by(answer: Result<Response, AllocError>) -> Rejection {
     match answer {
         Ok(response) => Rejection::Answered(response),
@@ -138,7 +133,6 @@ fn rejected_by(answer: Result<Response, AllocError>) -> Rejection {
     }
 }
 
-/// What is to be warned of, and after it the notes on the plan.
 fn told_of(alloc: Global, plan: &Plan) -> Result<Bytes, AllocError>
     ensures { IfOk result (λ text.
         text ≡ warnings plan.now.crontab plan.now.anacrontab ++ plan_notes plan.now) }
@@ -148,7 +142,7 @@ fn told_of(alloc: Global, plan: &Plan) -> Result<Bytes, AllocError>
     Ok(Bytes::from_vec(told))
 }
 
-/// What the checker has accepted, unless the crontab was gathered.
+/// Refuses a crontab that was gathered.
 fn accept(alloc: Global, checked: Checked, digests: Digests) -> Result<Accepted, Rejection>
     ensures { IfOk result (λ accepted. (accepted.checked ≡ checked)
         × (accepted.warnings ≡ warnings (plan_in checked).crontab (plan_in checked).anacrontab
@@ -172,14 +166,12 @@ fn accept(alloc: Global, checked: Checked, digests: Digests) -> Result<Accepted,
     }
 }
 
-/// What is answered where a rule isn't met.
 fn refusal(alloc: Global, plan: &Plan, fault: &CheckFault) -> Result<Response, AllocError> {
     let mut text = fault_text(alloc, plan, fault)?.into_vec();
     text.extend_from_slice(b"\n")?;
     Ok(Response::refused(text, Bytes::new(alloc)))
 }
 
-/// What the checker rules of what the files hold.
 fn rule(alloc: Global, claimed: Claimed) -> Result<Accepted, Rejection>
     ensures { IfOk result (λ accepted. IsTaken claimed
         accepted.checked accepted.digests accepted.warnings) }
@@ -198,7 +190,7 @@ fn rule(alloc: Global, claimed: Claimed) -> Result<Accepted, Rejection>
     ruled
 }
 
-/// Reads the files of these words anew, and checks them, with one thread.
+/// Reads the files of these words again, and checks them, with one thread.
 pub(crate) fn read_anew<R: Files + Input>(
     rt: &R,
     alloc: Global,
@@ -227,7 +219,7 @@ pub(crate) fn read_anew<R: Files + Input>(
 }
 
 impl Accepted {
-    /// What these words of `run` order of it.
+    /// Returns the order that these words of `run` make of it.
     pub(crate) fn order<'a>(self, words: RunWords<'a>) -> Order<'a>
         ensures of { IsOrderOf (asked_run words.entry) result }
         ensures taken { (result.checked ≡ self.checked) × (result.warnings ≡ self.warnings)

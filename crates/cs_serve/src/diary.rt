@@ -12,8 +12,8 @@ use std::io::Write;
 use std::rt::{Clock, Files};
 use std::sync::{Mutex, Wait};
 
-/// A hand that writes to a log to which others write too, with what runners have left for it, and
-/// keeps the file of the state that the log gives.
+/// Writes to a log that others write to as well, with what runners have left for it, and keeps the
+/// file of the daemon's state.
 #[derive(Drop)]
 pub(crate) struct Hand<'a, 'r, R, W> {
     rt: &'a R,
@@ -39,20 +39,20 @@ impl<'a, 'r, R, W> Hand<'a, 'r, R, W> {
 }
 
 impl<'a, 'r, R: Clock + Wait, W: Write> Hand<'a, 'r, R, W> {
-    /// Writes a line of its own, given without its newline, if the log has times. What it doesn't take
-    /// is lost.
+    /// Writes a line of its own, given without its newline, if the log has times. What it doesn't
+    /// take is lost.
     pub(crate) fn note(&mut self, line: &[u8]) {
         let _ = self.log.lock(self.rt).note(line);
     }
 
-    /// Writes what runners have left for the log so.
+    /// Writes so what runners have left for the log.
     pub(crate) fn note_remarks(&mut self) {
         for remark in self.remarks.take(self.rt) {
             self.note(remark.as_slice());
         }
     }
 
-    /// Writes each line of a text so, but empty ones.
+    /// Writes so each line of a text that isn't empty.
     pub(crate) fn note_lines(&mut self, text: &[u8]) {
         for line in text.split(|byte| *byte == b'\n') {
             if !line.is_empty() {
@@ -68,8 +68,8 @@ impl<'a, 'r, R: Clock + Wait, W: Write> Hand<'a, 'r, R, W> {
 }
 
 impl<'a, 'r, R: Clock + Files + Wait, W: Write> Hand<'a, 'r, R, W> {
-    /// Writes the file of the daemon's state, where it is due. The log is free meanwhile, so that no
-    /// job waits for the disk of this file. A write that fails is passed over: the next is due in a
+    /// Writes the file of the daemon's state, if it is due. The log is free meanwhile, so that no
+    /// job waits for the disk of this file. A write that fails is ignored: the next is due in a
     /// minute.
     pub(crate) fn keep_state(&mut self) {
         let text = self.log.lock(self.rt).state_if_due();
@@ -81,7 +81,7 @@ impl<'a, 'r, R: Clock + Files + Wait, W: Write> Hand<'a, 'r, R, W> {
 
 impl<'a, 'r, R: Clock + Wait + Sync, W: Write + Send> Write for Hand<'a, 'r, R, W> {
     fn write(&mut self, line: &[u8]) -> io::Result<usize> {
-        // first why, as the line may tell that a run isn't started
+        // first why, as the line may report that a run isn't started
         self.note_remarks();
         self.log.lock(self.rt).write(line)
     }
@@ -97,7 +97,6 @@ fn version() -> &'static str {
     text.strip_prefix("cronsafe ").unwrap_or(text).trim_end()
 }
 
-/// What a daemon is begun with.
 pub(crate) fn setup_of<'a>(order: &Order<'a>, jobs: &'a [JobNote]) -> Setup<'a> {
     let words = &order.words;
     let files = &words.check;
@@ -115,7 +114,6 @@ pub(crate) fn setup_of<'a>(order: &Order<'a>, jobs: &'a [JobNote]) -> Setup<'a> 
     }
 }
 
-/// These texts, one after another.
 fn joined(alloc: Global, texts: &[&[u8]]) -> Result<Vec<u8>, AllocError> {
     let mut line = Vec::new(alloc);
     for text in texts {
@@ -124,7 +122,7 @@ fn joined(alloc: Global, texts: &[&[u8]]) -> Result<Vec<u8>, AllocError> {
     Ok(line)
 }
 
-/// What a log begins with: the files of the tables, and how much may run at once.
+/// The first line of a log.
 fn opening(alloc: Global, order: &Order<'_>) -> io::Result<Vec<u8>> {
     let mut line = Vec::new(alloc);
     let words = &order.words;
@@ -145,14 +143,13 @@ fn opening(alloc: Global, order: &Order<'_>) -> io::Result<Vec<u8>> {
     Ok(line)
 }
 
-/// The SHA-256 of a file, by which it is told apart from another.
 fn digest_line(alloc: Global, file: &str, digest: &[u8]) -> Result<Vec<u8>, AllocError> {
     let digits = hex::encode(alloc, digest)?;
     let (file, digits) = (file.as_bytes(), digits.as_bytes());
     joined(alloc, &[file, b" sha256 ", digits])
 }
 
-/// That a setting by which cron would mail what jobs print has no effect.
+/// That `MAILTO`, by which cron would mail the output of jobs, has no effect.
 fn mail_line(alloc: Global, setting: &Setting, table: &str) -> Result<Vec<u8>, AllocError> {
     let number = setting.number().to_string(alloc)?;
     let (number, table) = (number.as_bytes(), table.as_bytes());
@@ -163,7 +160,6 @@ fn mail_line(alloc: Global, setting: &Setting, table: &str) -> Result<Vec<u8>, A
     )
 }
 
-/// The command of a line of the crontab.
 fn job_line(alloc: Global, line: &Line) -> Result<Vec<u8>, AllocError> {
     let number = line.number().to_string(alloc)?;
     let front = b"job line ".as_slice();
@@ -178,7 +174,6 @@ impl<'a, 'r, R: Clock + Wait, W: Write> Hand<'a, 'r, R, W> {
         }
     }
 
-    /// Notes which settings of a table would send mail by cron.
     fn note_mail(&mut self, alloc: Global, settings: &[Setting], table: &str) {
         for setting in settings {
             if setting.name() == b"MAILTO".as_slice() && !setting.value().is_empty() {
@@ -188,8 +183,8 @@ impl<'a, 'r, R: Clock + Wait, W: Write> Hand<'a, 'r, R, W> {
     }
 
     /// Notes what a daemon begins with: its files and their digests, the settings that have no
-    /// effect, and the commands of its crontab, by which readers of the log know what its runs are
-    /// of.
+    /// effect, and the commands of its crontab, from which readers of the log know what its runs
+    /// are.
     pub(crate) fn note_opening(&mut self, alloc: Global, order: &Order<'_>) {
         if let Ok(line) = opening(alloc, order) {
             self.note(line.as_slice());
@@ -207,7 +202,7 @@ impl<'a, 'r, R: Clock + Wait, W: Write> Hand<'a, 'r, R, W> {
     }
 }
 
-/// What a log ends with: why its daemon has ended.
+/// The last line of a log: why its daemon has ended.
 pub(crate) fn closing(cause: Cause) -> &'static [u8] {
     let line = match cause {
         Cause::Stopped => "stopped",

@@ -1,4 +1,4 @@
-//! Commands of the operator's that are started at what happens to a run.
+//! Hooks: commands of the operator's that are started at what happens to a run.
 ghost use Rattle.std.specs.Prelude.{◌≡◌, IfOk, map, option_map};
 ghost use Rattle.cs_args.specs.Asked.{asked_run};
 ghost use Rattle.cs_serve.specs.Hooks.{hook_command, hook_line, hook_variables};
@@ -12,8 +12,8 @@ use std::process::Processes;
 use std::rt::{Clock, Files};
 use std::sync::Wait;
 
-/// The daemon's own standard output and standard error, and where its runners leave what the log is
-/// to tell.
+/// The daemon's own standard output and standard error, and where its runners leave remarks for the
+/// log.
 #[derive(Clone, Copy)]
 pub struct Streams<'a> {
     pub out: Stdout,
@@ -21,7 +21,6 @@ pub struct Streams<'a> {
     pub remarks: &'a Remarks,
 }
 
-/// The variables of a call.
 fn variables_of(call: &HookCall) -> [(&str, &[u8]); 3]
     ensures { map (λ v. (v.0.now, v.1.now)) result ≡ hook_variables call.now }
 {
@@ -39,7 +38,6 @@ fn variables_of(call: &HookCall) -> [(&str, &[u8]); 3]
     }
 }
 
-/// The command for a call, if there is one.
 fn command_for<'a>(words: &RunWords<'a>, call: &HookCall) -> Option<&'a str>
     ensures { option_map (λ command. command.now) result
         ≡ hook_command (asked_run words.now) call.now }
@@ -50,7 +48,6 @@ fn command_for<'a>(words: &RunWords<'a>, call: &HookCall) -> Option<&'a str>
     }
 }
 
-/// What the log says of a command that is started, or can't be.
 fn hook_line(alloc: Global, command: &str, is_started: bool) -> Result<Vec<u8>, AllocError>
     ensures { IfOk result (λ line. line.items ≡ hook_line command.now is_started) }
 {
@@ -64,7 +61,7 @@ fn hook_line(alloc: Global, command: &str, is_started: bool) -> Result<Vec<u8>, 
     Ok(line)
 }
 
-/// Starts the commands for the calls that have come due.
+/// Starts the commands for what has happened since the last call.
 pub(crate) fn call_hooks<R: Files + Clock + Wait + Processes, W: Write>(
     rt: &R,
     alloc: Global,

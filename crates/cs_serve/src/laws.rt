@@ -1,4 +1,4 @@
-//! What an order to run says once it was served, by its status and its keep.
+//! What the status and the keep of a served order to run say.
 ghost use Rattle.std.specs.Prelude.{◌≡◌, ◌⊎◌, ◌≤◌, ℕ, IfSome, codes};
 ghost use Rattle.cs_args.specs.Asked.{AskedRun};
 ghost use Rattle.cs_ruling.specs.Answer.{IsOrder};
@@ -10,10 +10,10 @@ ghost use Rattle.cs_files.specs.Ending.{Sink, Tries};
 ghost use Rattle.cs_serve.specs.Serve.{IsServed};
 ghost use Rattle.cs_serve.specs.Served.{AreCounted, HasNoClock, IsDone, IsFull, IsOrdered};
 
-/// Lemma. The keep of an order that was served has the plan of the order, and its journal is a legal
-/// history. If each run in it has ended within its declared time, it is safe: at no moment did two
-/// runs of one exclusive group run at once, two that share its lock excepted, and the capacity was
-/// never exceeded.
+/// Lemma. The keep of a served order has the plan of the order, and its journal is a legal history.
+/// If each run in it has ended within its declared time, it is safe: at no moment did two runs of
+/// one exclusive group run at once, two that share its lock excepted, and the capacity was never
+/// exceeded.
 pub fn what_a_served_order_keeps()
     ensures { (a : AskedRun) (x : Claimed) (order : Order) (old new : Sink) (status : ℕ)
         → IsOrder a x order → (s : IsServed order old new status)
@@ -27,9 +27,9 @@ pub fn what_a_next_order_keeps()
         → IfSome s.1.end.keep (λ kept. IsOrdered order.checked (keeping_in kept)) }
 {}
 
-/// Lemma. What the status of an order that was served says, of devices that were new. 0: the clock
-/// said to stop, or its last minute has come. 1: the history is full. 6: the clock failed or went
-/// back. 5: memory ran out. Each event is the clock's or a worker's.
+/// Lemma. What the status of a served order says, of new devices. 0: the clock said to stop, or its
+/// last minute has come. 1: the history is full. 6: the clock failed or went back. 5: memory ran
+/// out. Each event is the clock's or a worker's.
 pub fn what_a_status_says()
     ensures done { (order : Order) (old new : Sink) (status : ℕ)
         (s : IsServed order old new status) → status ≡ 0 → IsDone s.0 s.1.end old new }

@@ -1,4 +1,4 @@
-//! What a daemon does beside its runs: its folder, log and state, files that are read anew, hooks.
+//! Serves an order to run: the daemon's folder, log and state, files read again, and hooks.
 #![tactic(auto)]
 
 mod anew;

@@ -12,8 +12,6 @@ use cs_plan::{Job, Plan};
 use cs_schedule::Schedule;
 use std::alloc::{AllocError, Global};
 
-/// Whether a run of one job may meet a late run of another: both belong to one exclusive group, and
-/// not both take its lock.
 fn may_meet(plan: &Plan, late: usize, other: usize) -> bool
     requires first { late < length plan.now.jobs }
     requires second { other < length plan.now.jobs }
@@ -26,7 +24,6 @@ fn may_meet(plan: &Plan, late: usize, other: usize) -> bool
         && !(one.mode().takes_lock() && peer.mode().takes_lock())
 }
 
-/// Adds the name of a job, after a comma, if its runs may meet a late run of the other.
 fn push_peer(
     alloc: Global,
     text: &mut Vec<u8>,
@@ -45,7 +42,7 @@ fn push_peer(
     push_job_name(alloc, text, plan, other)
 }
 
-/// What stands after the first comma and its blank; nothing of an empty text.
+/// What follows the first comma and its blank; nothing of an empty text.
 fn behind_comma(text: &[u8]) -> &[u8]
     ensures { result.now ≡ drop 2 text.now }
 {
@@ -55,7 +52,6 @@ fn behind_comma(text: &[u8]) -> &[u8]
     }
 }
 
-/// The names of the jobs whose runs may meet a late run of this one.
 #[tactic(auto, using(crate::proofs::Peers::more))]
 fn peers(alloc: Global, plan: &Plan, late: usize) -> Result<Bytes, AllocError>
     requires { late < length plan.now.jobs }
@@ -68,7 +64,6 @@ fn peers(alloc: Global, plan: &Plan, late: usize) -> Result<Bytes, AllocError>
     Bytes::from_slice(alloc, behind_comma(text.as_slice()))
 }
 
-/// The schedule of a job of the crontab.
 fn schedule_of(plan: &Plan, number: usize) -> Option<Schedule>
     ensures { result ≡ option_and_then schedule_in (slice_get plan.now.crontab.lines number) }
 {
@@ -92,7 +87,6 @@ fn note(alloc: Global, plan: &Plan, number: usize) -> Result<JobNote, AllocError
     })
 }
 
-/// What a daemon says of each job of its plan, in their order. The only error is out of memory.
 #[tactic(auto, using(crate::proofs::Peers::more_notes))]
 pub(crate) fn notes_of(alloc: Global, plan: &Plan) -> Result<Vec<JobNote>, AllocError>
     ensures { IfOk result

@@ -1,4 +1,3 @@
-//! Why an order isn't served.
 ghost use Rattle.std.specs.Prelude.{◌≡◌};
 ghost use Rattle.cs_serve.specs.Serve.{in_front, named};
 
@@ -7,24 +6,17 @@ use cs_ruling::Order;
 /// Why an order isn't served.
 #[derive(Clone, Copy)]
 pub(crate) enum Obstacle {
-    /// There is no such folder of stamps.
     NoFolder,
-    /// Another daemon has locked it.
     InUse,
-    /// It can't be locked.
     Unlocked,
-    /// The files by which an earlier daemon was asked can't be removed from it.
     RequestStays,
-    /// The user of this process has no home folder.
     NoHome,
-    /// The log can't be opened.
     NoLog,
-    /// There is no such folder for what jobs print.
     NoOutput,
 }
 
 impl Obstacle {
-    /// What is said of it, in front of the path.
+    /// What is written of it, before the path.
     pub(crate) fn text(self) -> &'static str
         ensures { result.now ≡ in_front self }
     {
@@ -39,7 +31,6 @@ impl Obstacle {
         }
     }
 
-    /// The path that it is about.
     pub(crate) fn path<'a>(self, order: &Order<'a>) -> &'a str
         ensures { result.now ≡ named self order.now }
     {

@@ -43,7 +43,6 @@ impl Gate for OpenGate {
     fn pass(&self, _run: Run, _point: Point) {}
 }
 
-/// The status of a run that ended so.
 fn status_for(cause: Cause) -> Status
     ensures { status_of result ≡ cause_status cause }
 {
@@ -57,7 +56,6 @@ fn status_for(cause: Cause) -> Status
     }
 }
 
-/// What is said of a run that ended so.
 fn farewell(cause: Cause) -> &'static str
     ensures { result.now ≡ farewell cause }
 {
@@ -71,7 +69,6 @@ fn farewell(cause: Cause) -> &'static str
     }
 }
 
-/// Says why an order isn't served, after what is to be warned of.
 fn refuse<O: Output, E: Output>(
     alloc: Global,
     order: Order<'_>,
@@ -95,7 +92,6 @@ fn refuse<O: Output, E: Output>(
     }
 }
 
-/// Says that memory ran out before anything was run, after what is to be warned of.
 fn run_out_unserved<E: Output>(order: Order<'_>, err: &mut E) -> Status
     ensures { RunsOutBehind order.entry
         (sink (E.contents err.old) (E.failed err.old))
@@ -107,8 +103,8 @@ fn run_out_unserved<E: Output>(order: Order<'_>, err: &mut E) -> Status
     run_out(err)
 }
 
-/// Runs a checked plan with these devices until it ends, and gives the status and the cause: the events
-/// are written to the log, why it ended to standard error.
+/// Runs a checked plan with these devices until it ends, and returns the status and the cause.
+/// Events go to the log, and why it ended to standard error.
 fn serve_by<
     R: Threads + Wait + Sync,
     C: cs_device::Clock,
@@ -154,15 +150,14 @@ fn serve_by<
     (status_for(cause), cause)
 }
 
-/// What is served after an order, and the clock that goes on.
 #[derive(Drop)]
 struct Next<'a, R> {
     order: Order<'a>,
     clock: MachineClock<'a, R, Idle>,
 }
 
-/// Lets a clock go on to the minute that it is now, which is that in which the next plan opens, and
-/// notes which minutes belong to no plan.
+/// Lets a clock go on to the present minute, in which the next plan opens, and notes which minutes
+/// belong to no plan.
 fn note_gap<R: Clock + Wait, W: Write>(
     alloc: Global,
     hand: &mut Hand<'_, '_, R, W>,
@@ -181,7 +176,7 @@ fn note_gap<R: Clock + Wait, W: Write>(
     }
 }
 
-/// What is served after these words, if a plan was accepted and the daemon has stopped for it.
+/// What is served next, if a plan was accepted and the daemon has stopped for it.
 fn next_of<'a, R: Clock + Wait, W: Write>(
     alloc: Global,
     cause: Cause,
@@ -203,8 +198,8 @@ fn next_of<'a, R: Clock + Wait, W: Write>(
     Some(Next { order, clock })
 }
 
-/// Warns, and runs what is ordered on the machine's clock until it ends, and answers with what is
-/// served then. Each line of its log has its time if that is asked for.
+/// Writes the warnings, runs the order on the machine's clock until it ends, and returns what is
+/// served next. Each line of its log has its time if `is_timed`.
 fn serve_on<
     'x,
     'w,
@@ -274,11 +269,11 @@ fn serve_on<
     (status, next)
 }
 
-/// How many files of each job are kept in the folder for what jobs print, where that isn't said.
+/// How many files of each job are kept in the folder for output, by default.
 const KEPT: u64 = 30;
 
-/// Runs one order until it ends. Without `--log` the log is written to standard output. A runner is
-/// made for each unit of the plan's capacity.
+/// Runs one order until it ends, with a runner for each unit of the plan's capacity. Without
+/// `--log` the log is written to standard output.
 fn serve_one<
     'x,
     R: Threads + Wait + Sync + Files<File = File> + Input + Clock + Processes,
@@ -348,8 +343,8 @@ fn serve_one<
     }
 }
 
-/// Runs an order until it ends, and then each that comes after it, unless the daemon is asked to
-/// stop by then.
+/// Runs an order until it ends, and then each that follows it, unless the daemon is asked to stop
+/// by then.
 fn serve_in_turn<
     'x,
     R: Threads + Wait + Sync + Files<File = File> + Input + Clock + Processes,
@@ -396,11 +391,11 @@ fn serve_in_turn<
     unreachable!()
 }
 
-/// For how many milliseconds a lock is waited for that isn't a daemon's.
+/// How many milliseconds to wait for a lock that isn't a daemon's.
 const MOMENT: u64 = 300;
 
-/// Locks a folder of stamps. Who has it locked for a moment alone, to look whether a daemon has, is
-/// waited for.
+/// Locks a folder of stamps. Another program may have it locked for a moment, to see whether a
+/// daemon has: that is waited for.
 fn lock<R: Files<File = File> + Clock>(rt: &R, folder: &str) -> Result<FolderLock, LockFault> {
     match FolderLock::take(rt, folder) {
         Err(LockFault::InUse) => {
@@ -411,7 +406,7 @@ fn lock<R: Files<File = File> + Clock>(rt: &R, folder: &str) -> Result<FolderLoc
     }
 }
 
-/// Opens and locks a folder of stamps, and removes what an earlier daemon there was asked.
+/// Opens and locks a folder of stamps, and removes the requests to an earlier daemon.
 fn enter<'r, 'f, R: Files<File = File> + Clock>(
     rt: &'r R,
     alloc: Global,
@@ -434,10 +429,9 @@ fn enter<'r, 'f, R: Files<File = File> + Clock>(
     Ok((stamps, lock))
 }
 
-/// Runs what is ordered until it ends, and gives the status: nothing is run unless its folder of
-/// stamps is there and can be locked for as long as it runs. Where the daemon is asked to reload, and
-/// accepts what its files hold then, that is run after it. What is to be warned of and why it ended
-/// goes to standard error.
+/// Runs an order until it ends, and returns the status. Nothing is run unless the folder of stamps
+/// is there and can be locked while the daemon runs. If the daemon is asked to reload, and accepts
+/// what its files hold then, that is run next. Warnings, and why it ended, go to standard error.
 pub fn serve<
     R: Threads + Wait + Sync + Files<File = File> + Input + Clock + Processes,
     O: Output + Write + Send,

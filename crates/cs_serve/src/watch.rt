@@ -23,7 +23,6 @@ pub(crate) struct DaemonFiles<'f> {
 }
 
 impl<'f> DaemonFiles<'f> {
-    /// Those in a folder of stamps. The only error is out of memory.
     pub(crate) fn of(alloc: Global, folder: &'f str) -> Result<DaemonFiles<'f>, AllocError> {
         Ok(DaemonFiles {
             stop: RequestFile::to_stop(alloc, folder)?,
@@ -33,7 +32,7 @@ impl<'f> DaemonFiles<'f> {
         })
     }
 
-    /// Removes what an earlier daemon was asked, and answered.
+    /// Removes the requests to an earlier daemon, and its answer.
     pub(crate) fn clear<R: Files>(&self, rt: &R) -> io::Result<()> {
         self.stop.remove(rt)?;
         self.reload.remove(rt)?;
@@ -41,8 +40,8 @@ impl<'f> DaemonFiles<'f> {
     }
 }
 
-/// Looks for the files by which its daemon is asked, keeps the file of the daemon's state, calls hooks,
-/// and writes down what runners and a clock report.
+/// Looks for requests, keeps the file of the daemon's state, calls hooks, and writes down what
+/// runners and a clock report.
 #[derive(Drop)]
 pub(crate) struct Watch<'a, 'r, R, W> {
     rt: &'a R,
@@ -80,7 +79,6 @@ impl<'a, 'r, R, W> Watch<'a, 'r, R, W> {
 }
 
 impl<'a, 'r, R: Files + Clock + Wait, W: Write> Watch<'a, 'r, R, W> {
-    /// Whether the daemon is asked to stop.
     fn is_stop_there(&mut self) -> bool {
         let is_there = self.files.stop.is_there(self.rt);
         if is_there {
@@ -89,7 +87,7 @@ impl<'a, 'r, R: Files + Clock + Wait, W: Write> Watch<'a, 'r, R, W> {
         is_there
     }
 
-    /// Whether the daemon is asked to reload, and that isn't answered yet.
+    /// Whether the daemon is asked to reload, and hasn't answered yet.
     fn is_reload_there(&mut self) -> bool {
         let is_there = self.files.reload.is_there(self.rt);
         self.is_passed_over &= is_there;
@@ -100,13 +98,13 @@ impl<'a, 'r, R: Files + Clock + Wait, W: Write> Watch<'a, 'r, R, W> {
         false
     }
 
-    /// Answers who asked to reload. Whether that could be reported.
+    /// Answers a request to reload. Returns whether that could be reported.
     fn answer(&mut self, status: Status, first: &[u8], second: &[u8]) -> bool {
         let is_written = match reply_text(self.alloc, status, first, second) {
             Ok(text) => self.files.answer.replace(self.rt, text.as_slice()).is_ok(),
             Err(AllocError) => false,
         };
-        // where the answer can't be written too, so that nobody waits for it for ever
+        // also if the answer can't be written, so that nobody waits for it for ever
         let is_removed = self.files.reload.remove(self.rt).is_ok();
         if !is_removed {
             let _ = self.files.answer.remove(self.rt);
@@ -115,7 +113,7 @@ impl<'a, 'r, R: Files + Clock + Wait, W: Write> Watch<'a, 'r, R, W> {
         is_written && is_removed
     }
 
-    /// Takes an accepted plan, and answers with what is to be warned of, unless that can't be reported.
+    /// Takes an accepted plan, and answers with its warnings, unless that can't be reported.
     fn take(&mut self, accepted: Accepted) -> bool {
         if !self.answer(Status::Done, accepted.warnings.as_slice(), b"") {
             self.hand.note(b"can't answer, the old plan goes on");
@@ -128,7 +126,7 @@ impl<'a, 'r, R: Files + Clock + Wait, W: Write> Watch<'a, 'r, R, W> {
         true
     }
 
-    /// Notes why the files aren't accepted, and answers so to who asked. No new plan is accepted then.
+    /// Notes why the files aren't accepted, and answers the same. Returns that no plan is accepted.
     fn reject(&mut self, rejection: &Rejection) -> bool {
         self.hand.note(b"reload refused, the old plan goes on");
         let (first, second) = rejection.texts();

@@ -24,7 +24,7 @@ use Rattle.cs_history.specs.declared.refusal.Refusal.{Refusal}
 use Rattle.cs_history.specs.declared.refusal.Refusal.TheVariants.{OutOfMemory}
 use Rattle.cs_show.specs.Replay.{tried, next}
 
--- a step that was not refused for want of memory
+-- a step that was refused for another reason than memory
 first_is : (f : Refusal) (o : Option Refusal) → f ≢ OutOfMemory → IsFirst f o → o ≡ Some f
 first_is f None other first = absurd (other first)
 first_is f (Some g) other first = ap Some (sym first)
@@ -37,7 +37,6 @@ step_refused p s e f n other (first, behind) =
     let is = first_is f (refusal p s e) other first in
     (rw is refl, rw is behind)
 
--- a first line that is made a comment is as long as it was
 comment_length : (b : Bool) (text : List ℕ) → length (if b then set text 0 35 else text) ≡ length text
 comment_length true text = length-set text 0 35
 comment_length false text = refl
@@ -68,7 +67,7 @@ same_text log m text (inl e) tells = subst (λ (b : List ℕ). TellsScript b m) 
 same_text log (Ok script) text (inr long) tells = λ past. tells long.0
 same_text log (Err fault) text (inr long) (tells, is) = ((λ past. tells long.0), is)
 
--- what the script means that a log tells
+-- what the script means that a log gives
 pub told_means : (d : Declared) (log script : List ℕ) (r : Result Numbered Fault) → IsToldBy log (Some script) → MeansIt (MeansScript d) InScript script r → MeansIt (MeansLog d) InScript log r
 told_means d log script (Ok m) told means = (Some script, told, means)
 told_means d log script (Err e) told means = by_trouble (trouble e) means
@@ -77,21 +76,20 @@ told_means d log script (Err e) told means = by_trouble (trouble e) means
     by_trouble None h = h
     by_trouble (Some t) (fault, is, stands) = (fault, is, (Some script, told, stands))
 
--- a log that tells of none is too long
+-- a log that gives no script counts as too long
 pub none_means : (d : Declared) (log : List ℕ) (e : Fault) → IsToldBy log None → trouble e ≡ Some (InScript too_long) → MeansIt (MeansLog d) InScript log (Err e)
 none_means d log e told is = rw is (too_long, refl, (None, told, refl))
 
 pub none_tells : (log : List ℕ) (e : Fault) → IsToldBy log None → trouble e ≡ Some (InScript too_long) → MeansIt TellsScript InScript log (Err e)
 none_tells log e told is = rw is (too_long, refl, (told, refl))
 
--- what is answered of a script that is too long is the same, whatever its text
+-- the answer to a script that is too long is the same, whatever its text
 same_reply : (b : Bool) (a : AskedReplay) (d : Declared) (bytes : List ℕ) (r : Result Ending ScriptFault) (text : List ℕ) → IsUpTo MAX_SCRIPT text bytes → Replies b a d bytes r → Replies b a d text r
 same_reply false a d bytes (Ok answer) text up (script, means, replayed) = (script, same_given d a.judge a.log bytes (Ok script) text up means, replayed)
 same_reply false a d bytes (Err fault) text up means = same_given d a.judge a.log bytes (Err fault) text up means
 same_reply true a d bytes (Ok answer) text up (script, tells, is) = (script, same_text bytes (Ok script) text up tells, is)
 same_reply true a d bytes (Err fault) text up tells = same_text bytes (Err fault) text up tells
 
--- an answer, and the answer to a fault of the script
 pub reply_to : (a : AskedReplay) (x : Replayable) (r : Ending) → MeansReply a x.plan x.script.items (Ok r) → IsReplyTo a x r
 reply_to a x r means = (Ok r, λ text up. same_reply a.show_script a x.plan x.script.items (Ok r) text up means, refl)
 

@@ -1,4 +1,4 @@
--- What is answered to `day`.
+-- The answer to `day`.
 use Rattle.std.specs.Prelude.{◌≡◌, ◌⊎◌, ℕ, List, [], ◌++◌, Option, codes, decimal}
 use Rattle.std.specs.Prelude.{flat_map}
 use Rattle.cs_crontab.specs.declared.table.When.{When}
@@ -16,7 +16,6 @@ use Rattle.cs_files.specs.Response.{Ending, done}
 use Rattle.cs_files.specs.Trouble.{InWords, ends}
 use Rattle.cs_files.specs.declared.asked.Tables.{Tables}
 
--- what is printed of a command line
 abbrev pub when_text : Question → ℕ → When → List ℕ
 when_text q number (At schedule) = job_text q.day q.max number schedule
 when_text q number Reboot = codes "line " ++ (decimal number ++ codes ": at reboot\n")
@@ -24,7 +23,6 @@ when_text q number Reboot = codes "line " ++ (decimal number ++ codes ": at rebo
 abbrev pub line_text : Question → CommandLine → List ℕ
 line_text q line = when_text q line.number line.when
 
--- what is printed of an anacron job
 abbrev pub anacron_text : Question → JobLine → List ℕ
 anacron_text q job = catch_up_text q.day q.max q.from q.to job.identifier
 
@@ -33,12 +31,11 @@ unfoldable pub tables_text : Question → List CommandLine → List JobLine → 
 tables_text q lines jobs =
     date_line q.day ++ (flat_map (line_text q) lines ++ flat_map (anacron_text q) jobs)
 
--- what is answered of both tables
 abbrev pub shown : Question → Tables → Ending
 shown q tables = done (tables_text q tables.crontab.lines tables.jobs.lines) []
 
--- what is answered to `day`: the first fault of DATE, MAX, the hours, the crontab and the anacrontab
--- ends the call, and no file is read before its own turn, or before the words ask a question
+-- the answer to `day`: the first fault of DATE, MAX, the hours, the crontab and the anacrontab ends
+-- the call, and no file is read before its own turn, or before the words ask a question
 abbrev pub AnswersDay : Asked → (List ℕ → Option (List ℕ)) → List ℕ → Failed → Failed → Ending
     → Type 0
 AnswersDay a files w before after ending =

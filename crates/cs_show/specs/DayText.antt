@@ -44,7 +44,8 @@ due_text number times day = codes "line "
 abbrev pub job : Times → ℕ → Job Kind
 job times max = record { begins = is_due times; lasts = max }
 
--- a command line: how often it is due, and the windows of its runs, those begun on earlier days first
+-- a command line: how often it is due, and the windows of its runs, those begun on earlier days
+-- first
 unfoldable pub job_text : ℕ → ℕ → ℕ → Times → List ℕ
 job_text n max number times = due_text number times (kind n)
     ++ flat_map window_text (windows_on (job times max ∷ []) (four_days n))
@@ -57,7 +58,8 @@ weekday_part dow = 32 ∷ (weekday_text dow ++ 10 ∷ [])
 unfoldable pub date_line : ℕ → List ℕ
 date_line n = day_text n ++ weekday_part (kind n).dow
 
--- an anacron job whose runs last so long, and which may be started at each minute of [from, to) of a day
+-- an anacron job whose runs last so long, and which may be started at each minute of [from, to) of
+-- a day
 abbrev pub catch_up : ℕ → ℕ → ℕ → Job Kind
 catch_up from to max = record { begins = λ day minute. minute == from; lasts = to + max - 1 - from }
 

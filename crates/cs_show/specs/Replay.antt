@@ -11,7 +11,7 @@ use Rattle.cs_plan.specs.Plan.{Declared, as_plan}
 use Rattle.cs_report.specs.Reply.{reply_text}
 use Rattle.cs_report.specs.Grammar.{Numbered}
 
--- what an event is answered that the plan refuses or takes
+-- the answer to an event that the plan takes or refuses
 abbrev pub answered : Option Refusal → Reply → Result Reply Refusal
 answered None reply = Ok reply
 answered (Some refusal) reply = Err refusal

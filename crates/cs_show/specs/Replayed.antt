@@ -1,4 +1,4 @@
--- What is answered to `replay`: each event of a script, as the rules of histories have it.
+-- The answer to `replay`: each event of a script, as the rules of histories have it.
 use Rattle.std.specs.Prelude.{◌≡◌, ◌<◌, ◌⊎◌, ℕ, Bool, true, false, ◌||◌, if◌then◌else◌}
 use Rattle.std.specs.Prelude.{List, [], ◌++◌, length, Option, Some, None, IfSome, Result, Ok, Err}
 use Rattle.clap.specs.Words.{Text}
@@ -35,7 +35,8 @@ abbrev pub ReadsPlan : (List ℕ → Option (List ℕ)) → Table × JobTable �
 ReadsPlan files tables max None = Gives (plain_planned tables max)
 ReadsPlan files tables max (Some path) = ReadsDeclared files tables path
 
--- the script that a log gives: some text, or none; none where the log is longer than a script may be
+-- the script that a log gives: some text, or none; none where the log is longer than a script may
+-- be
 abbrev pub IsToldBy : List ℕ → Option (List ℕ) → Type 0
 IsToldBy log script = MAX_SCRIPT < length log → script ≡ None
 
@@ -114,19 +115,19 @@ FindsScript files a w before after (Err t) =
     × ReadsPlan files (both_of tables) a.max a.declarations before before (Ok plan)
     × (after a.script ≡ true) × TellsPath a.script t)))
 
--- what is answered of a script, or of its fault
+-- the answer to a script, or to its fault
 abbrev pub replied : Result Ending ScriptFault → Ending
 replied (Ok answer) = answer
 replied (Err fault) = ends [] (InScript fault)
 
--- so it is, whatever the text that begins with the bytes that were read
+-- so it is for any text that begins with the bytes that were read
 abbrev pub IsReplyTo : AskedReplay → Replayable → Ending → Type 0
 IsReplyTo a x ending = (r : Result Ending ScriptFault)
     × ((text : List ℕ) → IsUpTo MAX_SCRIPT text x.script.items → MeansReply a x.plan text r)
     × (ending ≡ replied r)
 
--- what is answered to `replay`: the replayed script, or that of a log, or the first fault of a file,
--- and no file is read before its own turn
+-- the answer to `replay`: the replayed script, or that of a log, or the first fault of a file, and
+-- no file is read before its own turn
 abbrev pub AnswersReplay : AskedReplay → (List ℕ → Option (List ℕ)) → List ℕ → Failed → Failed
     → Ending → Type 0
 AnswersReplay a files w = Answers (FindsScript files a w) (IsReplyTo a)

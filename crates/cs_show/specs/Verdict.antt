@@ -42,7 +42,7 @@ abbrev pub TellsBreak : Declared → Script → List ℕ → Type 0
 TellsBreak plan script line =
     (shown : Shown) × IsShown (as_plan plan) script shown × (line ≡ broken_line plan shown)
 
--- so many events of a script
+-- the first events of a script, this many
 abbrev pub beginning : Numbered → ℕ → Script
 beginning script count =
     record { start = script.start; events = map (λ e. e.1) (take count script.events) }

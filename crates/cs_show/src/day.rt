@@ -10,7 +10,6 @@ use cs_crontab::{Line, When};
 use cs_files::{Response, Tables};
 use std::alloc::{AllocError, Global};
 
-/// Adds what is printed of command lines.
 fn add_lines(
     alloc: Global,
     text: &mut Vec<u8>,
@@ -34,7 +33,6 @@ fn add_lines(
     Ok(())
 }
 
-/// Adds what is printed of anacron jobs.
 fn add_jobs(
     alloc: Global,
     text: &mut Vec<u8>,
@@ -51,7 +49,6 @@ fn add_jobs(
     Ok(())
 }
 
-/// What `day` prints of both tables.
 #[tactic(auto, unfolding(crate::specs::DayAnswer::tables_text))]
 fn tables_text(
     alloc: Global,
@@ -68,8 +65,7 @@ fn tables_text(
     Ok(text)
 }
 
-/// Answers `day TABLE DATE [MAX] [--anacrontab FILE] [--from M] [--to M]`. The only error is want of
-/// memory.
+/// Answers `day TABLE DATE [MAX] [--anacrontab FILE] [--from M] [--to M]`.
 pub fn answer_day(
     alloc: Global,
     question: Question,

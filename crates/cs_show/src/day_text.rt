@@ -7,7 +7,6 @@ use cs_schedule::Schedule;
 use cs_windows::{Occupied, Window, windows_on};
 use std::alloc::{AllocError, Global};
 
-/// Adds `HH:MM` of a minute of a day.
 #[tactic(auto, unfolding(crate::specs::DayText::clock))]
 fn add_clock(text: &mut Vec<u8>, minute: u16) -> Result<(), AllocError>
     ensures { OnOk result (text.new.items ≡ text.old.items ++ clock minute) }
@@ -25,7 +24,6 @@ fn add_clock(text: &mut Vec<u8>, minute: u16) -> Result<(), AllocError>
     Ok(())
 }
 
-/// Adds how many days lie between, on this side of the printed day.
 #[tactic(auto, unfolding(crate::specs::DayText::days_apart))]
 fn add_days_apart(
     alloc: Global,
@@ -44,7 +42,6 @@ fn add_days_apart(
     Ok(())
 }
 
-/// Adds where a window ends, by the minute after it, counted from the start of the printed day.
 #[tactic(auto, using(crate::proofs::TextLemmas::two_parts), unfolding(crate::specs::DayText::end_text))]
 fn add_end(alloc: Global, text: &mut Vec<u8>, end: u32) -> Result<(), AllocError>
     ensures { OnOk result (text.new.items ≡ text.old.items ++ end_text end) }
@@ -56,7 +53,6 @@ fn add_end(alloc: Global, text: &mut Vec<u8>, end: u32) -> Result<(), AllocError
     add_days_apart(alloc, text, end / 1_440, "after")
 }
 
-/// Adds where a window begins.
 #[tactic(auto, using(crate::proofs::TextLemmas::two_parts), unfolding(crate::specs::DayText::start_text))]
 fn add_start(alloc: Global, text: &mut Vec<u8>, window: &Window) -> Result<(), AllocError>
     ensures { OnOk result (text.new.items ≡ text.old.items ++ start_text window.now) }
@@ -65,7 +61,6 @@ fn add_start(alloc: Global, text: &mut Vec<u8>, window: &Window) -> Result<(), A
     add_days_apart(alloc, text, u32::from(window.day_back), "before")
 }
 
-/// Adds the line of a window.
 #[tactic(auto, unfolding(crate::specs::DayText::window_text))]
 fn add_window(alloc: Global, text: &mut Vec<u8>, window: &Window) -> Result<(), AllocError>
     ensures { OnOk result (text.new.items ≡ text.old.items ++ window_text window.now) }
@@ -83,7 +78,6 @@ fn add_window(alloc: Global, text: &mut Vec<u8>, window: &Window) -> Result<(), 
     Ok(())
 }
 
-/// Adds the lines of windows.
 fn add_windows(alloc: Global, text: &mut Vec<u8>, windows: &[Window]) -> Result<(), AllocError>
     ensures { OnOk result (text.new.items ≡ text.old.items ++ flat_map window_text windows.now) }
 {
@@ -93,7 +87,7 @@ fn add_windows(alloc: Global, text: &mut Vec<u8>, windows: &[Window]) -> Result<
     Ok(())
 }
 
-/// Adds what is printed of a command line: how often it is due, and the windows of its runs.
+/// Adds the lines of a command: how often it is due, and the windows of its runs.
 #[tactic(auto, using(crate::proofs::TextLemmas::two_parts), unfolding(crate::specs::DayText::job_text, crate::specs::DayText::due_text))]
 pub fn add_job(
     alloc: Global,
@@ -117,7 +111,6 @@ pub fn add_job(
     add_windows(alloc, text, windows.as_slice())
 }
 
-/// Adds the line that names an anacron job.
 fn add_identifier(text: &mut Vec<u8>, identifier: &[u8]) -> Result<(), AllocError>
     ensures { OnOk result (text.new.items ≡ text.old.items ++ identifier_line identifier.now) }
 {
@@ -127,7 +120,7 @@ fn add_identifier(text: &mut Vec<u8>, identifier: &[u8]) -> Result<(), AllocErro
     Ok(())
 }
 
-/// Adds what is printed of an anacron job: the windows in which catch-up may occupy the machine.
+/// Adds the lines of an anacron job: the windows in which catch-up may occupy the machine.
 #[tactic(auto, using(crate::proofs::TextLemmas::two_parts), unfolding(crate::specs::DayText::catch_up_text))]
 pub fn add_catch_up(
     alloc: Global,

@@ -25,7 +25,6 @@ use cs_report::{MAX_SCRIPT, NumberedScript, ScriptError, ScriptFault, read_numbe
 use cs_retrace::retrace;
 use std::alloc::{AllocError, Global};
 
-/// The plan of both tables: as it is declared, or with one longest time.
 fn plan_from<'a, I: Inputs>(
     alloc: Global,
     inputs: &mut I,
@@ -54,7 +53,6 @@ fn plan_from<'a, I: Inputs>(
     }
 }
 
-/// The script that the bytes denote under the plan.
 fn script_of<'a>(alloc: Global, plan: &Plan, bytes: &[u8]) -> Result<NumberedScript, Fault<'a>>
     ensures value { MeansIt (MeansScript plan.now) InScript bytes.now result }
     ensures status { IfErr result IsOfContent }
@@ -65,7 +63,7 @@ fn script_of<'a>(alloc: Global, plan: &Plan, bytes: &[u8]) -> Result<NumberedScr
     }
 }
 
-/// The text of the script that a log gives, or none where either is too long.
+/// None if the log, or the script that it gives, is too long.
 fn told_by(alloc: Global, plan: &Plan, log: &[u8]) -> Result<Option<Vec<u8>>, AllocError>
     ensures { IfOk result (λ script. IsToldBy log.now (option_map (λ t. t.items) script)) }
 {
@@ -75,7 +73,6 @@ fn told_by(alloc: Global, plan: &Plan, log: &[u8]) -> Result<Option<Vec<u8>>, Al
     retrace(alloc, plan.offset(), log)
 }
 
-/// That a script is too long.
 fn too_long<'a>() -> Fault<'a>
     ensures value { trouble result ≡ Some (InScript too_long) }
     ensures status { IsOfContent result }
@@ -86,7 +83,6 @@ fn too_long<'a>() -> Fault<'a>
     })
 }
 
-/// The script that a log gives.
 #[tactic(auto, using(crate::proofs::ReplayLemmas::told_means, crate::proofs::ReplayLemmas::none_means))]
 fn script_told<'a>(alloc: Global, plan: &Plan, log: &[u8]) -> Result<NumberedScript, Fault<'a>>
     ensures value { MeansIt (MeansLog plan.now) InScript log.now result }
@@ -98,7 +94,6 @@ fn script_told<'a>(alloc: Global, plan: &Plan, log: &[u8]) -> Result<NumberedScr
     }
 }
 
-/// The script that is given: in the bytes, or in what they give as a log.
 fn script_given<'a>(
     alloc: Global,
     plan: &Plan,
@@ -116,7 +111,6 @@ fn script_given<'a>(
     }
 }
 
-/// The text of the script that a log gives.
 #[tactic(auto, using(crate::proofs::ReplayLemmas::none_tells))]
 fn text_told<'a>(alloc: Global, plan: &Plan, log: &[u8]) -> Result<Bytes, Fault<'a>>
     ensures value { MeansIt TellsScript InScript log.now result }
@@ -128,7 +122,6 @@ fn text_told<'a>(alloc: Global, plan: &Plan, log: &[u8]) -> Result<Bytes, Fault<
     }
 }
 
-/// What is answered of a script that was read, with `judge` with a verdict.
 fn show(
     alloc: Global,
     plan: &Plan,
@@ -157,8 +150,8 @@ pub struct Replayable {
     pub script: Vec<u8>,
 }
 
-/// Reads both tables, the declarations and then the script, and writes to standard error what is to be
-/// warned of the tables.
+/// Reads both tables, the declarations and then the script, and writes the tables' warnings to
+/// standard error.
 pub fn find_script<'a, I: Inputs, E: Output>(
     alloc: Global,
     inputs: &mut I,
@@ -187,7 +180,6 @@ pub fn find_script<'a, I: Inputs, E: Output>(
     })
 }
 
-/// What is answered of the script in the bytes.
 fn replayed<'a>(
     alloc: Global,
     words: &ReplayWords<'a>,
@@ -203,7 +195,6 @@ fn replayed<'a>(
     Ok(show(alloc, plan, script, words.judge)?)
 }
 
-/// The answer that shows the script that the log in the bytes gives.
 fn shown<'a>(
     alloc: Global,
     words: &ReplayWords<'a>,
@@ -219,7 +210,6 @@ fn shown<'a>(
     Ok(Response::done(script.into_vec(), Bytes::new(alloc)))
 }
 
-/// What is answered of the bytes, as it is asked.
 fn reply<'a>(
     alloc: Global,
     words: &ReplayWords<'a>,
@@ -238,8 +228,8 @@ fn reply<'a>(
     }
 }
 
-/// Answers `replay TABLE SCRIPT [--max N] [--anacrontab FILE] [--declarations FILE] [--judge] [--log]
-/// [--script]`. The only error is out of memory.
+/// Answers `replay TABLE SCRIPT [--max N] [--anacrontab FILE] [--declarations FILE] [--judge]
+/// [--log] [--script]`.
 pub fn answer_replay(
     alloc: Global,
     words: &ReplayWords<'_>,

@@ -12,7 +12,6 @@ use cs_plan::Plan;
 use cs_report::push_reply;
 use std::alloc::{AllocError, Global};
 
-/// Tries an event. The only error is out of memory.
 #[tactic(auto, using(crate::proofs::ReplayLemmas::step_taken, crate::proofs::ReplayLemmas::step_refused))]
 fn try_event(core: &mut Core, event: Event) -> Result<Result<Reply, Refusal>, AllocError>
     ensures answer { IfOk result (λ answer.
@@ -28,7 +27,6 @@ fn try_event(core: &mut Core, event: Event) -> Result<Result<Reply, Refusal>, Al
     }
 }
 
-/// Adds the line of an event.
 #[tactic(auto, unfolding(crate::specs::Replay::event_line))]
 fn push_event(
     alloc: Global,
@@ -44,7 +42,7 @@ fn push_event(
     text.extend_from_slice(b"\n")
 }
 
-/// Tries an event and adds its line, and says whether it was refused.
+/// Returns whether the event was refused.
 fn push_tried(
     alloc: Global,
     text: &mut Vec<u8>,
@@ -64,7 +62,7 @@ fn push_tried(
     Ok(answer.is_err())
 }
 
-/// Tries events one by one and adds their lines, and says whether one was refused.
+/// Returns whether one of the events was refused.
 #[tactic(auto, unfolding(crate::specs::Replay::event_lines, crate::specs::Replay::is_any_refused, crate::specs::Replay::last_state))]
 fn push_events(
     alloc: Global,
@@ -88,7 +86,6 @@ fn push_events(
     Ok(refused)
 }
 
-/// Adds a count after its name.
 fn push_count(
     alloc: Global,
     text: &mut Vec<u8>,
@@ -101,7 +98,6 @@ fn push_count(
     push_number(alloc, text, count as u128)
 }
 
-/// Adds `up` or `down` and the minute.
 fn push_moment(text: &mut Vec<u8>, core: &Core) -> Result<(), AllocError>
     ensures { OnOk result (text.new.items
         ≡ text.old.items ++ (side core.now.state.up ++ minute_text core.now.state.now)) }
@@ -111,7 +107,6 @@ fn push_moment(text: &mut Vec<u8>, core: &Core) -> Result<(), AllocError>
     text.extend_from_slice(&date_text(core.now()))
 }
 
-/// Adds the line of the state.
 #[tactic(auto, unfolding(crate::specs::Replay::state_line))]
 fn push_state(alloc: Global, text: &mut Vec<u8>, core: &Core) -> Result<(), AllocError>
     ensures { OnOk result (text.new.items ≡ text.old.items ++ state_line core.now.state) }
@@ -123,8 +118,8 @@ fn push_state(alloc: Global, text: &mut Vec<u8>, core: &Core) -> Result<(), Allo
     text.extend_from_slice(b"\n")
 }
 
-/// What is said of a script under a plan, and whether an event was refused. The script has these
-/// events, each with the number of its line, and starts at 1970-01-04 00:00 or later.
+/// Returns what `replay` prints of a script, whose events have the numbers of their lines, and
+/// whether an event was refused.
 #[tactic(auto, unfolding(crate::specs::Replay::replay_text, crate::specs::Replay::has_refusal))]
 pub fn replay_text(
     alloc: Global,

@@ -25,7 +25,6 @@ pub fn as_script(judge: bool, bytes: Vec<u8>) -> Vec<u8>
     bytes
 }
 
-/// The events without the numbers of their lines.
 fn events_of(alloc: Global, numbered: &[(u32, Event)]) -> Result<Sequence<Event>, AllocError>
     ensures { IfOk result (λ events. events ≡ map (λ e. e.1) numbered.now) }
 {
@@ -36,7 +35,6 @@ fn events_of(alloc: Global, numbered: &[(u32, Event)]) -> Result<Sequence<Event>
     Ok(events)
 }
 
-/// The line of the script with the event of this number, counted from 1.
 fn line_of(events: &[(u32, Event)], number: usize) -> u32
     ensures { result ≡ line_of events.now number }
 {
@@ -46,7 +44,6 @@ fn line_of(events: &[(u32, Event)], number: usize) -> u32
     }
 }
 
-/// The line of what is broken.
 fn broken_line(alloc: Global, plan: &Plan, shown: &Shown) -> Result<Vec<u8>, AllocError>
     requires { IsTellable (as_plan plan.now) shown.now }
     ensures { IfOk result (λ text. text.items ≡ broken_line plan.now shown.now) }
@@ -56,7 +53,6 @@ fn broken_line(alloc: Global, plan: &Plan, shown: &Shown) -> Result<Vec<u8>, All
     Ok(text)
 }
 
-/// The line that says where a run has passed its declared time.
 #[tactic(auto, unfolding(crate::specs::Verdict::late_line))]
 fn late_line(alloc: Global, number: u32) -> Result<Vec<u8>, AllocError>
     ensures { IfOk result (λ text. text.items ≡ late_line number) }
@@ -67,7 +63,6 @@ fn late_line(alloc: Global, number: u32) -> Result<Vec<u8>, AllocError>
     Ok(text.into_bytes())
 }
 
-/// The first events, so many of them.
 fn first_events(events: &[(u32, Event)], count: usize) -> &[(u32, Event)]
     ensures { result.now ≡ take count events.now }
 {
@@ -77,8 +72,6 @@ fn first_events(events: &[(u32, Event)], count: usize) -> &[(u32, Event)]
     }
 }
 
-/// What is said of a script whose event of this number, counted from 1, is the first to find a run
-/// over its declared time: what was broken before it, or else its line.
 fn late_verdict(
     alloc: Global,
     plan: &Plan,
@@ -104,9 +97,8 @@ fn late_verdict(
     }
 }
 
-/// What is said of a script, a line, and whether something goes wrong in it. What is broken before
-/// a run is late goes before that; nothing is said where an event is refused before a run is late.
-/// The script starts at 1970-01-04 00:00 or later. The only error is out of memory.
+/// Returns the line on a script, and whether something goes wrong in it. What is broken before a
+/// run is late goes before that. There is no line where an event is refused before a run is late.
 pub fn verdict(
     alloc: Global,
     plan: &Plan,

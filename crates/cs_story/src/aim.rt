@@ -7,17 +7,16 @@ use cs_plan::Plan;
 use cs_profile::Facts;
 use std::alloc::{AllocError, Global};
 
-/// How many aims are tried.
 pub(crate) const MAX_AIMS: usize = 8;
 
-/// What a story may aim at: that these runs go on at once. Those that begin in the same minute begin in this order.
+/// What a story may aim at: that these runs go on at once. Those that begin in one minute begin in
+/// this order.
 #[derive(Drop)]
 pub(crate) struct Aim {
     pub runs: Vec<Wanted>,
 }
 
 impl Aim {
-    /// These two runs.
     pub(crate) fn pair(alloc: Global, one: Wanted, other: Wanted) -> Result<Aim, AllocError> {
         Ok(Aim {
             runs: Vec::from_slice(alloc, &[one, other])?,
@@ -34,7 +33,7 @@ impl Aim {
     }
 }
 
-/// Each of the plainest runs by which the lock of its group is held when the skip job is due.
+/// Pairs the skip job with each of the plainest runs that take its group's lock.
 fn blocked(
     alloc: Global,
     facts: &Facts,

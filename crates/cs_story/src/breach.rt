@@ -9,7 +9,7 @@ pub enum Rule {
     SkipBlocked { skip: u16 },
 }
 
-/// A window by civil minutes, counted since 1970-01-01: in `[from, to)` one run of the job may go on.
+/// The window of a run, in civil minutes since 1970-01-01: it may go on in `[from, to)`.
 #[derive(Clone, Copy)]
 pub struct Span {
     pub job: u16,

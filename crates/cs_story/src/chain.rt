@@ -4,11 +4,11 @@ use crate::wanted::{MINUTES_OF_DAY, Wanted, is_wanted, task_of};
 use cs_profile::{Calendar, Facts};
 use std::alloc::{AllocError, Global};
 
-/// How many days before it ends a chain may begin.
+/// How many days before its end a chain may begin.
 const MAX_DAYS: u64 = 8;
 
-/// Other runs that hold the lock of a group one after the other, from one civil minute on to another, in which the last of
-/// them ends and the wanted ones start.
+/// Other runs that hold the lock of a group one after the other, from one civil minute to another,
+/// in which the last of them ends and the wanted ones start.
 #[derive(Clone, Copy)]
 pub(crate) struct Chain {
     pub group: u8,
@@ -16,7 +16,8 @@ pub(crate) struct Chain {
     pub to: u64,
 }
 
-/// A run of mode try of a chain. Those that hold the lock before it end in the minute in which it is due, so that it gets it.
+/// A run of mode try in a chain. Those that hold the lock before it end in the minute in which it
+/// is due, so that it gets the lock.
 #[derive(Clone, Copy)]
 pub(crate) struct Tried {
     pub group: u8,
@@ -24,7 +25,6 @@ pub(crate) struct Tried {
     pub due: u64,
 }
 
-/// Chains of several groups, and their runs of mode try.
 #[derive(Drop)]
 pub(crate) struct Chains {
     pub list: Vec<Chain>,
@@ -32,7 +32,8 @@ pub(crate) struct Chains {
     pub tried: Vec<Tried>,
 }
 
-/// What is wanted of a chain: that the lock is held when the first wanted run is due, and until the last of them is to start.
+/// What is wanted of a chain: that the lock is held when the first wanted run is due, and until the
+/// last of them is to start.
 #[derive(Clone, Copy)]
 struct Hold {
     group: u8,
@@ -42,7 +43,6 @@ struct Hold {
     is_shared: bool,
 }
 
-/// Adds what is wanted of a chain, or joins it to what is wanted of that group's.
 fn add_hold(holds: &mut Vec<Hold>, hold: Hold) -> Result<(), AllocError> {
     for own in holds.iter_mut() {
         if own.group == hold.group {
@@ -56,7 +56,6 @@ fn add_hold(holds: &mut Vec<Hold>, hold: Hold) -> Result<(), AllocError> {
     Ok(())
 }
 
-/// What is wanted of the chains for these runs, one for each group in which one waits.
 fn holds_for(alloc: Global, facts: &Facts, runs: &[Wanted]) -> Result<Vec<Hold>, AllocError> {
     let mut holds: Vec<Hold> = Vec::new(alloc);
     for run in runs {
@@ -90,7 +89,6 @@ struct Link {
 }
 
 impl Link {
-    /// With the run of another job, of mode try or of another one.
     fn add(&mut self, part: Part, is_try: bool, job: u16, minutes: u64) {
         if is_try {
             if minutes > self.tried {
@@ -106,7 +104,6 @@ impl Link {
         }
     }
 
-    /// For a run that shares the lock, or doesn't.
     fn minutes(self, is_shared: bool) -> u64 {
         if is_shared {
             self.alone
@@ -116,7 +113,7 @@ impl Link {
     }
 }
 
-/// Adds the runs of a job on a day, but the wanted ones.
+/// Adds the runs of a job on a day, except the wanted ones.
 fn add_job(links: &mut Vec<Link>, facts: &Facts, runs: &[Wanted], job: u16, midnight: u64) {
     let Some(own) = task_of(facts, job) else {
         return;
@@ -134,7 +131,6 @@ fn add_job(links: &mut Vec<Link>, facts: &Facts, runs: &[Wanted], job: u16, midn
     }
 }
 
-/// The links of each minute of a day, where these jobs are due on it.
 fn links_on(
     alloc: Global,
     facts: &Facts,
@@ -158,7 +154,8 @@ fn links_on(
     Ok(links)
 }
 
-/// How far a chain was followed back: until when the lock has to be held before, and where it can begin.
+/// How far a chain was followed back: until when the lock has to be held by earlier runs, and where
+/// the chain can begin.
 #[derive(Clone, Copy)]
 struct Back {
     until: u64,
@@ -166,7 +163,7 @@ struct Back {
 }
 
 impl Back {
-    /// Whether a run of mode try that is due at a minute before, and may hold the lock for so long, has to hold it.
+    /// Whether a run of mode try that is due at an earlier minute has to hold the lock.
     fn wants_tried(self, hold: Hold, minute: u64, link: Link) -> bool {
         let until = self.until.saturating_sub(link.minutes(hold.is_shared));
         self.begins.is_none()
@@ -175,8 +172,7 @@ impl Back {
             && until <= minute.saturating_add(link.tried)
     }
 
-    /// Over a minute before, whose runs hold the lock for so long if it is held until then, or free. A chain begins where they
-    /// need no others.
+    /// Follows the chain back over a minute. It begins where the runs of the minute need no others.
     fn over(self, hold: Hold, minute: u64, link: Link) -> Back {
         let minutes = link.minutes(hold.is_shared);
         let is_tried = self.wants_tried(hold, minute, link);
@@ -200,7 +196,6 @@ impl Back {
         }
     }
 
-    /// Over a day.
     fn over_day(
         self,
         hold: Hold,
@@ -224,7 +219,6 @@ impl Back {
     }
 }
 
-/// The jobs that are due on the civil day with this number.
 fn due_on<'a>(facts: &'a Facts, calendar: &Calendar, day: u64) -> Option<&'a [u16]> {
     let profile = calendar.profile_on(day)?;
     match facts.due().get(usize::from(profile)) {
@@ -233,7 +227,7 @@ fn due_on<'a>(facts: &'a Facts, calendar: &Calendar, day: u64) -> Option<&'a [u1
     }
 }
 
-/// The chain that begins last, the runs of mode try of which are added to these.
+/// The chain that begins last. Its runs of mode try are added to `tried`.
 fn chain_for(
     alloc: Global,
     facts: &Facts,
@@ -265,8 +259,8 @@ fn chain_for(
     })
 }
 
-/// The chains by which these runs start as late as they are to, one for each group in which one waits; `None` if one of them
-/// can't be had.
+/// The chains by which these runs start as late as they are to, one for each group in which one
+/// waits. `None` if one can't be had.
 pub(crate) fn chains_for(
     alloc: Global,
     facts: &Facts,

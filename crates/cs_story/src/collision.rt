@@ -1,4 +1,3 @@
-//! Two runs of an exclusive group that nothing keeps from going on at once.
 use crate::aim::{Aim, MAX_AIMS};
 use crate::part::{Part, is_of, part_of};
 use crate::wanted::Wanted;
@@ -9,7 +8,6 @@ use std::alloc::{AllocError, Global};
 /// How many runs of one part are looked at.
 const PLAINEST: usize = 3;
 
-/// The plainest runs of each part of a group.
 fn plainest(
     alloc: Global,
     facts: &Facts,
@@ -31,7 +29,8 @@ fn plainest(
     Ok(chosen)
 }
 
-/// Whether two runs of one exclusive group can go on at once: its lock keeps its own takers apart, and anacron its jobs.
+/// Whether two runs of one exclusive group can go on at once. Its lock keeps its own takers apart,
+/// and anacron its jobs.
 fn can_clash(facts: &Facts, one: Wanted, other: Wanted) -> bool {
     let Some(one) = part_of(facts, one.job) else {
         return false;
@@ -44,7 +43,6 @@ fn can_clash(facts: &Facts, one: Wanted, other: Wanted) -> bool {
     !is_locked && !is_in_turn
 }
 
-/// Adds each two of these that can clash.
 fn add_pairs(
     alloc: Global,
     aims: &mut Vec<Aim>,
@@ -61,7 +59,6 @@ fn add_pairs(
     Ok(())
 }
 
-/// The plainest pairs of runs of an exclusive group that can go on at once.
 pub(crate) fn collisions(
     alloc: Global,
     plan: &Plan,

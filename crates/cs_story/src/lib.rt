@@ -1,5 +1,6 @@
-//! The story of a breach: a script of events in which what is declared is broken although each run ends in time. Nothing
-//! trusts it, so it promises nothing but that it returns.
+//! Finds the story of a breach: events that break a declaration although each run ends in time.
+//!
+//! Nothing trusts it, so it promises only to return.
 #![tactic(auto)]
 
 mod aim;

@@ -1,4 +1,3 @@
-//! Runs that weigh more than the capacity and can go on at once.
 use crate::aim::Aim;
 use crate::part::{Part, is_of, part_of, weight};
 use crate::wanted::Wanted;
@@ -7,7 +6,6 @@ use cs_profile::Facts;
 use std::alloc::{AllocError, Global};
 use std::cmp::Reverse;
 
-/// Whether the run is of this part, and of the group if one is named.
 fn belongs(facts: &Facts, run: Wanted, part: Part, group: Option<u8>) -> bool {
     let is_member = match group {
         Some(group) => is_of(facts, run.job, group),
@@ -16,7 +14,6 @@ fn belongs(facts: &Facts, run: Wanted, part: Part, group: Option<u8>) -> bool {
     is_member && part_of(facts, run.job) == Some(part)
 }
 
-/// The first of the heaviest runs of this part and group.
 fn heaviest(facts: &Facts, runs: &[Wanted], part: Part, group: Option<u8>) -> Option<Wanted> {
     let mut most = 0;
     let mut found = None;
@@ -29,7 +26,6 @@ fn heaviest(facts: &Facts, runs: &[Wanted], part: Part, group: Option<u8>) -> Op
     found
 }
 
-/// Adds all runs of this part and group.
 fn add_all(
     chosen: &mut Vec<Wanted>,
     facts: &Facts,
@@ -45,7 +41,8 @@ fn add_all(
     Ok(())
 }
 
-/// Adds the heaviest runs that the lock of a group lets go on at once: all that share it, or one that doesn't.
+/// Adds the heaviest runs that the lock of a group lets go on at once: all that share it, or one
+/// that doesn't.
 fn add_group(
     chosen: &mut Vec<Wanted>,
     facts: &Facts,
@@ -86,7 +83,8 @@ fn heaviest_together(
     Ok(chosen)
 }
 
-/// The fewest runs that can go on at once and weigh more than the capacity: as many of the heaviest as it takes.
+/// The fewest runs that can go on at once and weigh more than the capacity: as many of the heaviest
+/// as it takes.
 pub(crate) fn overload(
     alloc: Global,
     plan: &Plan,

@@ -6,7 +6,6 @@ use crate::plot::Plot;
 use crate::wanted::task_of;
 use cs_history::{Event, Mode, Run};
 
-/// The first job that is due and that no wanted run is of.
 fn unwanted_job(play: &Play, plot: &Plot<'_>) -> Option<u16> {
     for job in play.core().pending() {
         if !plot.wants(*job, play.now()) {
@@ -16,7 +15,8 @@ fn unwanted_job(play: &Play, plot: &Plot<'_>) -> Option<u16> {
     None
 }
 
-/// Begins the jobs that are due, but those of wanted runs. Their runs end at once, unless they are to hold a lock.
+/// Begins the jobs that are due, except those of wanted runs. Their runs end at once, unless they
+/// are to hold a lock.
 fn begin_unwanted(play: &mut Play, plot: &Plot<'_>) -> Result<(), Ending> {
     let at = play.now();
     for _ in 0..play.core().pending().len() {
@@ -51,7 +51,6 @@ fn held_out(play: &Play, plot: &Plot<'_>, chain: Chain) -> Option<Run> {
     None
 }
 
-/// Ends the runs of a chain that have to.
 fn end_links(play: &mut Play, plot: &Plot<'_>, chain: Chain) -> Result<(), Ending> {
     for _ in 0..play.core().running().len() {
         let Some(run) = held_out(play, plot, chain) else {
@@ -62,7 +61,6 @@ fn end_links(play: &mut Play, plot: &Plot<'_>, chain: Chain) -> Result<(), Endin
     Ok(())
 }
 
-/// A run of a chain of this group that holds its lock.
 fn holder(play: &Play, plot: &Plot<'_>, group: u8) -> Option<Run> {
     for going in play.core().running().iter() {
         let run = going.run;
@@ -73,7 +71,7 @@ fn holder(play: &Play, plot: &Plot<'_>, group: u8) -> Option<Run> {
     None
 }
 
-/// Begins the runs of mode try of chains that are due, each after those have ended that hold its lock.
+/// Begins the runs of mode try of chains that are due. Before each, those that hold its lock end.
 fn begin_tried(play: &mut Play, plot: &Plot<'_>) -> Result<(), Ending> {
     let now = play.now();
     let first = plot.tried.as_slice().partition_point(|it| it.due < now);
@@ -94,7 +92,8 @@ fn begin_tried(play: &mut Play, plot: &Plot<'_>) -> Result<(), Ending> {
     Ok(())
 }
 
-/// The first run of this mode that waits for the lock of a chain's group and can have it, but no wanted one.
+/// The first run of this mode, except wanted ones, that waits for the lock of a chain's group and
+/// can have it.
 fn next_link(play: &Play, plot: &Plot<'_>, chain: Chain, mode: Mode) -> Option<Run> {
     for going in play.core().waiting().iter() {
         let run = going.run;
@@ -109,7 +108,7 @@ fn next_link(play: &Play, plot: &Plot<'_>, chain: Chain, mode: Mode) -> Option<R
     None
 }
 
-/// Hands the lock of a chain on to its next run, as often as one ends at once.
+/// Hands the lock of a chain on to its next run, as often as that run ends at once.
 fn hand_on(play: &mut Play, plot: &Plot<'_>, chain: Chain) -> Result<(), Ending> {
     end_links(play, plot, chain)?;
     for _ in 0..play.core().waiting().len() {
@@ -126,7 +125,8 @@ fn hand_on(play: &mut Play, plot: &Plot<'_>, chain: Chain) -> Result<(), Ending>
     Ok(())
 }
 
-/// Goes on with the chains: before the end of one its lock is handed on, and there it is let go.
+/// Follows the chains. Before the end of one its lock is handed on; at its end the lock is
+/// released.
 fn follow_chains(play: &mut Play, plot: &Plot<'_>) -> Result<(), Ending> {
     let now = play.now();
     for chain in plot.chains.as_slice() {
@@ -140,7 +140,6 @@ fn follow_chains(play: &mut Play, plot: &Plot<'_>) -> Result<(), Ending> {
     Ok(())
 }
 
-/// Begins the jobs of wanted runs that are due.
 fn begin_wanted(play: &mut Play, plot: &Plot<'_>) -> Result<(), Ending> {
     let now = play.now();
     for run in plot.runs.as_slice() {
@@ -151,7 +150,6 @@ fn begin_wanted(play: &mut Play, plot: &Plot<'_>) -> Result<(), Ending> {
     Ok(())
 }
 
-/// Gives the wanted runs that are to start the lock that they wait for.
 fn grant_wanted(play: &mut Play, plot: &Plot<'_>) -> Result<(), Ending> {
     let now = play.now();
     for run in plot.runs.as_slice() {
@@ -163,7 +161,6 @@ fn grant_wanted(play: &mut Play, plot: &Plot<'_>) -> Result<(), Ending> {
     Ok(())
 }
 
-/// Starts the wanted run that catches up.
 fn catch_up(play: &mut Play, plot: &Plot<'_>) -> Result<(), Ending> {
     if let Some(run) = plot.catch_up() {
         if run.start == play.now() {
@@ -173,7 +170,7 @@ fn catch_up(play: &mut Play, plot: &Plot<'_>) -> Result<(), Ending> {
     Ok(())
 }
 
-/// The first run that can have the lock that it waits for, but no wanted one.
+/// The first run, except wanted ones, that can have the lock that it waits for.
 fn unwanted_waiter(play: &Play, plot: &Plot<'_>) -> Option<Run> {
     for going in play.core().waiting().iter() {
         let run = going.run;
@@ -184,7 +181,8 @@ fn unwanted_waiter(play: &Play, plot: &Plot<'_>) -> Option<Run> {
     None
 }
 
-/// Starts and ends the runs that are in no one's way and wait for a lock that is free, since no minute goes by before.
+/// Starts and ends the runs that are in no one's way and wait for a free lock, since no minute
+/// passes before.
 fn settle(play: &mut Play, plot: &Plot<'_>) -> Result<(), Ending> {
     for _ in 0..play.core().waiting().len() {
         let Some(run) = unwanted_waiter(play, plot) else {

@@ -16,8 +16,8 @@ const MAX_EVENTS: usize = 400_000;
 pub(crate) enum Ending {
     /// Something is broken.
     Broken,
-    /// Its next event is refused, or comes when a run is over its declared time, or it would be too
-    /// long, or no looks are left.
+    /// Its next event is refused, or comes when a run is over its declared time, or the story would
+    /// be too long, or no looks are left.
     Stuck,
     /// Memory ran out.
     OutOfMemory,
@@ -44,16 +44,14 @@ impl From<NotShown> for Ending {
 #[derive(Drop)]
 pub(crate) struct Play {
     pub trial: Trial,
-    /// The events.
     pub events: Sequence<Event>,
     /// How many looks are left.
     pub looks: u64,
-    /// How often an event has all runs looked at.
+    /// How often an event takes a look at all runs.
     pub rounds: u64,
 }
 
 impl Play {
-    /// No events yet.
     pub(crate) fn open(
         alloc: Global,
         plan: &Plan,
@@ -71,23 +69,20 @@ impl Play {
         })
     }
 
-    /// What the events have left.
     pub(crate) fn core(&self) -> &Core {
         self.trial.core()
     }
 
-    /// The present civil minute.
     pub(crate) fn now(&self) -> u64 {
         self.core().now().number()
     }
 
-    /// Whether the event may come next.
     pub(crate) fn can(&self, event: Event) -> bool {
         self.core().test(&event).is_ok()
     }
 
-    /// Takes an event, unless the story ends before it; it ends with it if something is broken. That
-    /// costs a look at the event, and at each run.
+    /// Takes an event, unless the story ends before it. The story ends with the event if something
+    /// is broken. An event costs a look at it, and at each run.
     pub(crate) fn take(&mut self, event: Event) -> Result<(), Ending> {
         let number = self.events.len();
         let runs = self.core().running().len() as u64 + self.core().waiting().len() as u64;

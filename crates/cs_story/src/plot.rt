@@ -6,13 +6,12 @@ use crate::wanted::{Wanted, is_wanted, task_of};
 use cs_profile::{Calendar, Facts};
 use std::alloc::{AllocError, Global};
 
-/// How a story is to come to its aim.
+/// How a story is to reach its aim.
 #[derive(Drop)]
 pub(crate) struct Plot<'a> {
     pub facts: &'a Facts,
-    /// The runs of the aim.
     pub runs: Vec<Wanted>,
-    /// By which of them start late.
+    /// The chains by which some of them start late.
     pub chains: Vec<Chain>,
     /// Their runs of mode try, by the minute at which they are due.
     pub tried: Vec<Tried>,
@@ -20,7 +19,6 @@ pub(crate) struct Plot<'a> {
     pub stays: Vec<Stay>,
 }
 
-/// Whether the run waits for the end of this chain.
 fn waits_for(facts: &Facts, chain: Chain, run: Wanted) -> bool {
     let waits = match task_of(facts, run.job) {
         Some(task) => task.mode.waits(),
@@ -66,7 +64,6 @@ impl<'a> Plot<'a> {
         }))
     }
 
-    /// Whether this run is wanted.
     pub(crate) fn wants(&self, job: u16, due: u64) -> bool {
         is_wanted(self.runs.as_slice(), job, due)
     }
@@ -84,7 +81,6 @@ impl<'a> Plot<'a> {
         false
     }
 
-    /// The wanted run that catches up, if there is one.
     pub(crate) fn catch_up(&self) -> Option<Wanted> {
         for run in self.runs.as_slice() {
             if let Some(task) = task_of(self.facts, run.job) {

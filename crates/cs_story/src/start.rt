@@ -7,8 +7,9 @@ use cs_civil::{Day, Minute};
 use cs_history::Start;
 use cs_plan::Plan;
 
-/// The start at this minute. Where a run is to catch up the daemon is down, since a pass begins when it comes up: of the jobs of the
-/// anacrontab only that one is due then, by a stamp of the day on which the daemon comes up for the last time before.
+/// The start at this minute. If a run is to catch up, the daemon is down, since a pass begins when
+/// it comes up. Of the anacron jobs only that one is due then, by a stamp of the day on which the
+/// daemon last comes up before.
 pub(crate) fn start_at(plan: &Plan, plot: &Plot<'_>, minute: Minute) -> Start
     ensures { result.now ≡ minute }
 {

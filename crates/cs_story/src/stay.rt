@@ -1,4 +1,3 @@
-//! When the daemon is up in a story.
 use crate::chain::Chain;
 use crate::part::is_of;
 use crate::wanted::{Wanted, task_of};
@@ -12,8 +11,9 @@ pub(crate) struct Stay {
     pub last: u64,
 }
 
-/// The shortest stay for a run: what is due in a minute is begun where the daemon was up in the minute before, as is the chain
-/// that keeps its lock from it, and a pass that begins with it waits for the delay of its job.
+/// The shortest stay for a run. What is due in a minute is begun if the daemon was up in the minute
+/// before, as is the chain that keeps its lock from it; and a pass that begins with the stay waits
+/// for the delay of its job.
 fn stay_for(facts: &Facts, chains: &[Chain], run: Wanted) -> Stay {
     let (is_cron, delay) = match task_of(facts, run.job) {
         Some(task) => (task.is_cron, u64::from(task.delay)),

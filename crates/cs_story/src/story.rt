@@ -17,7 +17,8 @@ use std::alloc::{AllocError, Global};
 /// 1970-01-04 00:00, before which no history starts.
 const FIRST_START: u64 = 4_320;
 
-/// All stays, minute by minute. Before the first the daemon is up from the start on, unless a pass is to begin.
+/// All stays, minute by minute. Before the first the daemon is up from the start on, unless a pass
+/// is to begin.
 fn perform(play: &mut Play, plot: &Plot<'_>) -> Result<(), Ending> {
     for (place, stay) in plot.stays.as_slice().iter().enumerate() {
         if place > 0 {
@@ -36,7 +37,8 @@ fn perform(play: &mut Play, plot: &Plot<'_>) -> Result<(), Ending> {
     Ok(())
 }
 
-/// The script of a plot, from this minute on, if it breaks the plan. Hands back the looks that are left.
+/// The script of a plot, from this minute on, if it breaks the plan. `looks` are those left, before
+/// and after.
 fn script_from(
     alloc: Global,
     plan: &Plan,
@@ -67,7 +69,7 @@ fn script_from(
     }
 }
 
-/// The script of an aim, if one was found. Each run that others put off costs a look for each minute
+/// The script of an aim, if one is found. Each run that others put off costs a look for each minute
 /// of a day.
 fn script_of(
     alloc: Global,
@@ -95,9 +97,12 @@ fn script_of(
     }
 }
 
-/// A script in which the plan is broken although each run ends within its declared time, where these windows break a rule. What
-/// it breaks first may be something else. It starts at 1970-01-04 00:00 or later. `None` if none of at most 400,000 events was
-/// found with so many looks; `looks` are those left, before and after. The only error is want of memory.
+/// Returns a script in which the plan is broken although each run ends within its declared time,
+/// where these windows break a rule. What it breaks first may be something else. It starts at
+/// 1970-01-04 00:00 or later.
+///
+/// `None` if none of at most 400,000 events is found with so many looks; `looks` are those left,
+/// before and after. The only error is out of memory.
 pub fn tell(
     alloc: Global,
     plan: &Plan,

@@ -4,10 +4,9 @@ use cs_profile::{Facts, Task};
 use std::alloc::{AllocError, Global};
 use std::cmp::Reverse;
 
-/// The minutes of a day.
 pub(crate) const MINUTES_OF_DAY: u64 = cs_civil::MINUTES_OF_DAY as u64;
 
-/// A run that a story is to bring about, by civil minutes.
+/// A run that a story is to bring about, in civil minutes.
 #[derive(Clone, Copy, PartialEq, Eq)]
 pub(crate) struct Wanted {
     pub job: u16,
@@ -24,7 +23,6 @@ impl Wanted {
     }
 }
 
-/// Whether a run of this job due at this minute is one of these.
 pub(crate) fn is_wanted(runs: &[Wanted], job: u16, due: u64) -> bool {
     for run in runs {
         if run.job == job && run.due == due {
@@ -34,12 +32,12 @@ pub(crate) fn is_wanted(runs: &[Wanted], job: u16, due: u64) -> bool {
     false
 }
 
-/// What the job with this number does.
 pub(crate) fn task_of(facts: &Facts, job: u16) -> Option<&Task> {
     facts.tasks().get(usize::from(job))
 }
 
-/// The run of a window that goes on at this minute, started as early as will do if its job waits.
+/// The run of a window that goes on at this minute. If its job waits, it starts no earlier than it
+/// has to.
 fn run_in(plan: &Plan, facts: &Facts, span: Span, at: u64) -> Option<Wanted> {
     let task = task_of(facts, span.job)?;
     if at < span.from || at >= span.to {
@@ -64,8 +62,8 @@ fn run_in(plan: &Plan, facts: &Facts, span: Span, at: u64) -> Option<Wanted> {
     })
 }
 
-/// The runs of the windows of a breach that go on at its minute, the plainest first: those that needn't wait, then those that
-/// start last.
+/// The runs of the windows of a breach that go on at its minute, the plainest first: those that
+/// needn't wait, then those that start last.
 pub(crate) fn runs_of(
     alloc: Global,
     plan: &Plan,

@@ -47,7 +47,7 @@ command_in line when command is =
     let c = text_command is.text when command is.says in
     (is.says.1, c.0, omega (arith, c.1, ap (length {A = ℕ}) is.parts, length-append is.indent is.text))
 
--- ---- a command behind its user
+-- ---- a command after its user
 
 command_takes : (line : List ℕ) (when : When) (text : List ℕ) (x : Entry) → UserSays line (users.Command when text) → command_of when text ≡ Ok x → Says line x
 command_takes line when text x says e =

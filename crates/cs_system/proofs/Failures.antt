@@ -1,4 +1,4 @@
--- Faults of a line: those that are read are its faults, and its faults are read.
+-- The faults that are read are those of the line, and the other way round.
 use Rattle.std.proofs.Common.{◌≡◌, ◌≢◌, ℕ, ◌≤◌, true, cond, List, [], ◌++◌, length, Result, Ok, Err, refl, sym, ap, subst, ◌∙◌, arith, inl, inr}
 use Rattle.std.specs.List.{list_all, list_any}
 use Rattle.std.proofs.lemmas.List.{length-append, append-nil}
@@ -37,7 +37,7 @@ all_blank text none =
 blank_all : (text : List ℕ) → list_all is_blank text ≡ true → after is_blank text ≡ []
 blank_all text all = ap (after is_blank) (sym (append-nil text)) ∙ after_again is_blank text [] all tt
 
--- ---- a command behind its user
+-- ---- a command after its user
 
 command_fails : (when : When) (text : List ℕ) (wrong : Wrong SystemFault) → text ≢ [] → StopsAt is_blank text → command_of when text ≡ Err wrong → UserFails (front is_solid text) (after is_solid text) wrong
 command_fails when text wrong some stop e =
@@ -90,7 +90,7 @@ line_fails_again line wrong (inl (inner, fails, is)) = ap system_line (user_fail
 line_fails_again line wrong (inr (when, word, behind, says, solid, stop, fails)) =
     ap system_line (user_entries.line_again line (users.Command when (word ++ behind)) says) ∙ command_fails_again when word behind wrong solid.0 stop fails
 
--- ---- what is wrong is a part of the line
+-- ---- a fault is in the line
 
 user_within : (line word behind : List ℕ) (wrong : Wrong SystemFault) → length (word ++ behind) ≤ length line → UserFails word behind wrong → IsWithin line wrong
 user_within line word behind wrong short (inl (foreign, is)) =

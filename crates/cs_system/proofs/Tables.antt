@@ -92,7 +92,7 @@ within n table line wrong e = by_reason (fails n table line wrong e)
 pub agrees : Agrees system added
 agrees = record { takes = takes; again = again; fails = fails; fails_again = fails_again; within = within }
 
--- ---- what a call answered of a line
+-- ---- the result for a line
 
 pub line_answers : (line : List ℕ) (r : Result SystemEntry (Wrong SystemFault)) → Gives entry_seen r (line_of line)
     → IfOk r (λ entry. Says line (entry_seen entry)) × IfErr r (LineFails line) × IfErr r (IsWithin line)

@@ -1,4 +1,4 @@
--- Which fault of a system table is the first: of its lines, and in a line from left to right.
+-- Which fault of a system table is the first: by line, and in a line from left to right.
 use Rattle.std.specs.Prelude.{◌≡◌, ℕ, ◌≤◌, ◌⊎◌, true, List, ◌++◌, length}
 use Rattle.std.specs.List.{list_all, list_any}
 use Rattle.cs_table.specs.declared.fault.Wrong.{Wrong}
@@ -26,22 +26,22 @@ too_long = Line faults.TooLong
 abbrev pub as_system : Wrong LineFault → Wrong SystemFault
 as_system wrong = record { fault = Line wrong.fault; left = wrong.left; length = wrong.length }
 
--- The word holds a byte that no user's name holds, or it is a user and only blanks follow it.
+-- The word has a byte that no user's name has, or it is a user and only blanks follow.
 abbrev pub UserFails : List ℕ → List ℕ → Wrong SystemFault → Type 0
 UserFails word behind wrong =
     ((list_any is_foreign word ≡ true) × (wrong ≡ before behind BadUser word))
     ⊎ (IsUser word × (list_all is_blank behind ≡ true)
     × (wrong ≡ at_end (Line faults.NoCommand)))
 
--- The line has the fault in a user's table; or there it says a command, whose first word, or what
--- follows that word, has the fault.
+-- The line has the fault in a user's table. Or it is a command there, and the fault is in the
+-- command's first word or after it.
 abbrev pub LineFails : List ℕ → Wrong SystemFault → Type 0
 LineFails line wrong =
     ((inner : Wrong LineFault) × UserLineFails line inner × (wrong ≡ as_system inner))
     ⊎ ((when : When) × (word behind : List ℕ) × UserSays line (users.Command when (word ++ behind))
     × Are is_solid word × StopsAt is_solid behind × UserFails word behind wrong)
 
--- A line has a fault, or, after all its own faults, its command is one too many for the table.
+-- A line has a fault of its own, or its command is one too many for the table.
 abbrev pub Fails : Table → List ℕ → Wrong SystemFault → Type 0
 Fails table line wrong =
     LineFails line wrong
@@ -49,7 +49,6 @@ Fails table line wrong =
     × ((when : When) × (user command : List ℕ) × Says line (Command when user command))
     × IsWhole (Line faults.TooManyJobs) line wrong)
 
--- A system table is read line by line.
 abbrev pub system : Kind Table SystemFault
 system = record { empty = no_lines; too_long = too_long; Adds = Adds; Fails = Fails }
 
@@ -64,6 +63,6 @@ Meaning = tables.Meaning Table SystemFault
 abbrev pub Means : List ℕ → Meaning → Type 0
 Means text meaning = tables.Means system text meaning
 
--- The fault that a call answered is the text's, unless memory ran out.
+-- The fault is that of the text, unless memory ran out.
 abbrev pub IsFaultOf : List ℕ → TableFault SystemFault → Type 0
 IsFaultOf text fault = tables.IsFaultOf system text fault

@@ -8,16 +8,15 @@ use Rattle.cs_crontab.specs.Crontab as users
 use Rattle.cs_crontab.specs.Grammar.{Says as UserSays}
 use Rattle.cs_system.specs.System.{Entry, Nothing, Setting, Command, Table, with_entry}
 
--- a byte that no user's name holds: `/`, `=`, a quote or a control byte (this profile)
+-- no user's name has such a byte: `/`, `=`, a quote or a control byte (this profile)
 abbrev pub is_foreign : ℕ → Bool
 is_foreign b = b == 47 || b == 61 || is_quote b || nat_lt b 32 || b == 127
 
--- a word without such bytes
 abbrev pub IsUser : List ℕ → Type 0
 IsUser word = Are is_solid word × (list_any is_foreign word ≡ false)
 
--- The content of a line is that of a line of a user's table, which says a user, blanks and the
--- command where this one says a command (crontab(5)).
+-- A line is one of a user's table, in which each command starts with the user and blanks
+-- (crontab(5)).
 abbrev pub Says : List ℕ → Entry → Type 0
 Says line Nothing = UserSays line users.Nothing
 Says line (Setting name value) = UserSays line (users.Setting name value)
@@ -25,13 +24,13 @@ Says line (Command when user command) =
     (gap : List ℕ) × UserSays line (users.Command when (user ++ (gap ++ command))) × IsUser user
     × Are is_blank gap × StopsAt is_blank command × (command ≢ [])
 
--- There is room for a command in the table.
+-- The table has room for a command.
 abbrev pub HasRoom : Table → Entry → Type 0
 HasRoom table Nothing = Unit {0}
 HasRoom table (Setting name value) = Unit {0}
 HasRoom table (Command when user command) = length table.lines < MAX_COMMANDS
 
--- The line with this number makes one table into the other.
+-- The line of this number makes one table into the other.
 abbrev pub Adds : ℕ → Table → List ℕ → Table → Type 0
 Adds number table line more = (entry : Entry) × Says line entry × HasRoom table entry
     × (more ≡ with_entry number entry table)

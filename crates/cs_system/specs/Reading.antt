@@ -1,4 +1,4 @@
--- What a line denotes, or its first fault from left to right.
+-- What a line is, or its first fault from left to right.
 use Rattle.std.specs.Prelude.{ℕ, if◌then◌else◌, List, Result, Ok, Err}
 use Rattle.std.specs.List.{list_any}
 use Rattle.cs_table.specs.declared.fault.Wrong.{Wrong}
@@ -24,7 +24,6 @@ command_of when text =
     then Err (at_end (Line NoCommand))
     else Ok (Command when (front is_solid text) (after is_blank (after is_solid text)))
 
--- what is read as a line of a user's table, as a line of a system table
 abbrev pub system_line : Result users.Entry (Wrong LineFault) → Result Entry (Wrong SystemFault)
 system_line (Ok users.Nothing) = Ok Nothing
 system_line (Ok (users.Setting name value)) = Ok (Setting name value)

@@ -1,4 +1,3 @@
--- A line as the code holds it, wherever it lies in memory.
 use Rattle.cs_system.specs.declared.line.SystemEntry.{SystemEntry}
 use Rattle.cs_system.specs.declared.line.SystemEntry.TheVariants as held
 use Rattle.cs_system.specs.System.{Entry, Nothing, Setting, Command}

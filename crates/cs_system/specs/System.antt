@@ -10,7 +10,7 @@ pub data Entry : Type 0 where
   Setting : (name value : List ℕ) → Entry
   Command : When → (user command : List ℕ) → Entry
 
--- a command, when it is started, the user that it runs as, and the number of its line, from 1
+-- a command, when it starts, the user that it runs as, and the number of its line, from 1
 pub record SystemCommand : Type 0 where
   pub number : ℕ
   pub when : When
@@ -24,7 +24,6 @@ pub record Table : Type 0 where
 abbrev pub no_lines : Table
 no_lines = record { settings = []; lines = [] }
 
--- a table with the content of a line at its end
 abbrev pub with_entry : ℕ → Entry → Table → Table
 with_entry number Nothing table = table
 with_entry number (Setting name value) table = record {
@@ -37,7 +36,7 @@ with_entry number (Command when user command) table = record {
       ++ (record { number = number; when = when; user = user; command = command } ∷ []);
 }
 
--- There are not too many commands; settings and commands are in order of line, each on its own.
+-- There are not too many commands; settings and commands are each in order of line.
 pub record IsOrdered (table : Table) : Type 0 where
   pub few : length table.lines ≤ MAX_COMMANDS
   pub rising : AllPairs (λ x y. x.number < y.number) table.lines

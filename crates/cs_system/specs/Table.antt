@@ -10,7 +10,7 @@ use Rattle.cs_system.specs.declared.fault.SystemFault.TheVariants.{Line}
 use Rattle.cs_system.specs.System.{Entry, Nothing, Setting, Command, Table, with_entry}
 use Rattle.cs_system.specs.Reading.{line_of}
 
--- the table with the entry of a line at its end, or the fault of a command above the limit
+-- the table with the entry at its end, or the fault of a command above the limit
 abbrev pub put : ℕ → List ℕ → Table → Entry → Result Table (Wrong SystemFault)
 put number line table Nothing = Ok table
 put number line table (Setting name value) = Ok (with_entry number (Setting name value) table)

@@ -4,11 +4,11 @@ ghost use Rattle.cs_system.specs.Printed.{fault_text};
 use cs_crontab::LineFault;
 use thiserror::Error;
 
-/// What is wrong with a line or its length, printed as number and name: `13 BadUser`.
+/// A fault of a line or of its length. Displays as number and name: `13 BadUser`.
 #[derive(Clone, Copy, Debug, PartialEq, Eq, Error)]
 #[error("{}", self.text())]
 pub enum SystemFault {
-    /// One that a user's table may have, too.
+    /// A fault that a user's table may have, too.
     Line(LineFault),
     /// The user contains `/`, `=`, a quote or a control byte (this profile).
     BadUser,

@@ -1,4 +1,4 @@
-//! Reading a system table: `/etc/crontab` and the files of `/etc/cron.d` (crontab(5)).
+//! Reads system tables, `/etc/crontab` and files of `/etc/cron.d`, or their first fault.
 #![tactic(auto)]
 
 mod fault;

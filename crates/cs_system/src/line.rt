@@ -14,7 +14,7 @@ use cs_table::text::{skip_blanks, word};
 /// The content of a line.
 #[derive(Drop)]
 pub enum SystemEntry<'a> {
-    /// Nothing: it is empty, blank or a comment.
+    /// The line is empty, blank or a comment.
     Nothing,
     /// A name and its value.
     Setting(&'a [u8], &'a [u8]),

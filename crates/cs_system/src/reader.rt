@@ -14,7 +14,6 @@ use cs_table::{Draft, Setting, TableFault, Wrong, read_table};
 use std::alloc::{AllocError, Global};
 use std::marker::Model;
 
-/// The lines read so far.
 #[derive(Drop)]
 struct SystemDraft {
     variables: Sequence<Setting>,
@@ -90,19 +89,17 @@ fn read_bytes(alloc: Global, bytes: &[u8]) -> Result<SystemTable, TableFault<Sys
 }
 
 /// Reads a system table, `/etc/crontab` or a file of `/etc/cron.d` (crontab(5)), or returns its
-/// first fault. Memory may run out.
-///
-/// The table's length comes first; in a line its length, a zero byte, then faults from left to
-/// right, then too many commands.
+/// first fault: the length of the table first; in a line its length, a zero byte, faults from left
+/// to right, and then too many commands.
 pub fn read_system_crontab(
     alloc: Global,
     bytes: &[u8],
 ) -> Result<SystemTable, TableFault<SystemFault>>
-    // The table that is read is written in the bytes.
+    // The bytes are written as this table.
     ensures table { IfOk result (IsSystemCrontab bytes.now) }
-    // err: the first fault; `OutOfMemory` only if memory runs out
+    // the first fault; `OutOfMemory` only if memory ran out
     ensures fault { IfErr result (IsFaultOf bytes.now) }
-    // The bytes have no other meaning, and it is returned unless memory runs out.
+    // The bytes have no other meaning, and it is returned unless memory ran out.
     ensures only { (meaning : Meaning) → Means bytes.now meaning
         → Denotes (λ table. table) meaning result }
 {

@@ -41,7 +41,7 @@ impl SystemLine {
         }
     }
 
-    /// Returns the number of the line, counted from 1 over all lines of the table.
+    /// Returns the number of the line in the table, from 1.
     pub fn number(&self) -> u32
         ensures { result ≡ self.now.number }
     {
@@ -62,7 +62,7 @@ impl SystemLine {
         self.owner.as_slice()
     }
 
-    /// Returns the command, to the end of the line, trailing blanks included.
+    /// Returns the command to the end of the line, with trailing blanks.
     pub fn command(&self) -> &[u8]
         ensures { result.now ≡ self.now.command }
     {

@@ -39,7 +39,6 @@ module _ (p : ℕ → Bool) (xs : List ℕ) (i : ℕ) where
       ∙ append_assoc (take i xs) (get_or xs i 0 ∷ []) (front p (drop (i + 1) xs))
       ∙ ap (λ (l : List ℕ). take i xs ++ l) (sym (front_more below passes))
 
--- one digit more, where the number is cut at 1,000,000
 pub decimal_next : (n d : ℕ) (digits : List ℕ) → decimal_from n (d ∷ digits) ≡ decimal_from (10 * n + (d - 48)) digits
 unfolding decimal_from
 decimal_next n d digits = refl

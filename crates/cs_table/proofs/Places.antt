@@ -11,8 +11,6 @@ use Rattle.cs_table.proofs.Fronts.{length-parts}
 use Rattle.cs_table.proofs.Results.{same_wrong}
 use Rattle.cs_table.proofs.Spans.{after_again, parts_joined, front_passes, after_stops}
 
--- ---- the first zero byte
-
 abbrev has_nul : List ℕ → Bool
 has_nul line = list_any (λ b. nat_eq b 0) line
 
@@ -46,8 +44,6 @@ module _ {F : Type 0} (fault : F) (line : List ℕ) (wrong : Wrong F) where
       let left = ap (length {A = ℕ}) (ap (after (is_other 0)) parts ∙ f.1) in
       (ap has_nul parts ∙ f.0, is ∙ same_wrong (before behind fault (0 ∷ [])) (at_nul fault line) refl (omega (arith, left)) refl)
 
-  -- ---- a line without its indent
-
   pub whole_takes : wrong ≡ whole fault (after is_blank line) → IsWhole fault line wrong
   whole_takes is = (front is_blank line, after is_blank line, sym (parts_joined is_blank line), front_passes is_blank line, after_stops is_blank line, is)
 
@@ -55,8 +51,6 @@ module _ {F : Type 0} (fault : F) (line : List ℕ) (wrong : Wrong F) where
   whole_again (indent, text, parts, blank, stop, is) =
       let trimmed : after is_blank line ≡ text = ap (after is_blank) parts ∙ after_again is_blank indent text blank stop in
       is ∙ ap (whole fault) (sym trimmed)
-
-  -- ---- parts of a line
 
   pub nul_within : IsNul fault line wrong → IsWithin line wrong
   nul_within (clean, behind, parts, none, is) =

@@ -32,14 +32,12 @@ pub no_quote : (q : ℕ) (xs : List ℕ) → ((k : ℕ) → k < length xs → na
 unfolding quoted_at
 no_quote q xs none = rw (nothing_behind q xs none) refl
 
--- how many bytes there are from the next quote on
 pub left_at : (q : ℕ) (xs : List ℕ) (k : ℕ) → k < length xs → ((j : ℕ) → j < k → nat_eq (get_or xs j 0) q ≡ true → ⊥) → nat_eq (get_or xs k 0) q ≡ true → length xs - k ≡ length (after (is_other q) xs)
 left_at q xs k below none is = omega (arith, below, length-drop (suc k) xs, ap (length {A = ℕ}) (upto_quote q xs k below none is).1)
 
 pub none_left : (q : ℕ) (xs : List ℕ) → ((k : ℕ) → k < length xs → nat_eq (get_or xs k 0) q ≡ true → ⊥) → 0 ≡ length (after (is_other q) xs)
 none_left q xs none = sym (ap (length {A = ℕ}) (nothing_behind q xs none))
 
--- one byte more at the end
 pub trimmed_blank : (xs : List ℕ) (b : ℕ) → is_blank b ≡ true → trimmed (xs ++ b ∷ []) ≡ trimmed xs
 unfolding trimmed
 trimmed_blank [] b blank = rw blank refl
@@ -64,7 +62,6 @@ pub trimmed_nothing : trimmed [] ≡ []
 unfolding trimmed
 trimmed_nothing = refl
 
--- a text by its last byte
 by_last : (xs : List ℕ) → 1 ≤ length xs → take (length xs - 1) xs ++ get_or xs (length xs - 1) 0 ∷ [] ≡ xs
 by_last xs some =
     let before : ℕ = length xs - 1 in

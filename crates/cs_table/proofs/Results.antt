@@ -6,7 +6,7 @@ use Rattle.cs_table.specs.declared.fault.Wrong.{Wrong}
 use Rattle.cs_table.specs.Text.{is_nothing}
 use Rattle.cs_table.specs.Wrong.{◌>>=◌, farther, marked, moved}
 
--- the value of a step that did not fail, and the fault of one that did
+-- a sequence that doesn't fail has two steps that don't; one that fails has one that does
 pub bind_ok : {A B F : Type 0} (r : Result A F) (f : A → Result B F) (y : B) → (r >>= f) ≡ Ok y → (x : A) × (r ≡ Ok x) × (f x ≡ Ok y)
 bind_ok (Ok x) f y e = (x, refl, e)
 bind_ok (Err d) f y e = absurd cc
@@ -15,7 +15,6 @@ pub bind_err : {A B F : Type 0} (r : Result A F) (f : A → Result B F) (d : F) 
 bind_err (Ok x) f d e = inr (x, refl, e)
 bind_err (Err g) f d e = inl cc
 
--- the same of a test
 pub guard_ok : {A F : Type 0} (b : Bool) (d : F) (r : Result A F) (y : A) → cond b (Err d) r ≡ Ok y → (b ≡ false) × (r ≡ Ok y)
 guard_ok true d r y e = absurd cc
 guard_ok false d r y e = (refl, e)
@@ -33,7 +32,7 @@ err_is g d e = cc
 pub ok_no_err : {A F : Type 0} (x : A) (d : F) → ◌≡◌ {A = Result A F} (Ok x) (Err d) → ⊥
 ok_no_err x d e = cc
 
--- the same of a fault that was given its place
+-- the same for a fault that was given its place
 module _ {A F : Type 0} where
   pub marked_ok : (left size : ℕ) (r : Result A F) (x : A) → marked left size r ≡ Ok x → r ≡ Ok x
   marked_ok left size (Ok y) x e = cc

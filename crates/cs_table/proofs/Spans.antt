@@ -26,7 +26,6 @@ module _ (p : ℕ → Bool) where
   after_again [] (b ∷ bs) all stop = rw stop refl
   after_again (b ∷ bs) rest all stop = rw (and_left (p b) (list_all p bs) all) (after_again bs rest (and_right (p b) (list_all p bs) all) stop)
 
-  -- what is found was written so
   pub parts_joined : (xs : List ℕ) → front p xs ++ after p xs ≡ xs
   unfolding front after
   parts_joined [] = refl
@@ -54,7 +53,6 @@ module _ (p : ℕ → Bool) where
       by_test true is e = e
       by_test false is e = is
 
--- a weaker test passes too
 pub list_all_weaker : (p q : ℕ → Bool) → ((b : ℕ) → p b ≡ true → q b ≡ true) → (xs : List ℕ) → list_all p xs ≡ true → list_all q xs ≡ true
 list_all_weaker p q weaker [] all = refl
 list_all_weaker p q weaker (b ∷ bs) all = rw (weaker b (and_left (p b) (list_all p bs) all)) (list_all_weaker p q weaker bs (and_right (p b) (list_all p bs) all))
@@ -62,8 +60,6 @@ list_all_weaker p q weaker (b ∷ bs) all = rw (weaker b (and_left (p b) (list_a
 pub list_all_joined : (p : ℕ → Bool) (xs ys : List ℕ) → list_all p xs ≡ true → list_all p ys ≡ true → list_all p (xs ++ ys) ≡ true
 list_all_joined p [] ys first second = second
 list_all_joined p (b ∷ bs) ys first second = rw (and_left (p b) (list_all p bs) first) (list_all_joined p bs ys (and_right (p b) (list_all p bs) first) second)
-
--- ---- texts that are not empty
 
 pub some_from : (xs : List ℕ) → nat_eq (length xs) 0 ≡ false → xs ≢ []
 some_from [] e eq = absurd cc

@@ -13,8 +13,8 @@ use Rattle.cs_table.specs.Text.{lines_of}
 use Rattle.cs_table.specs.Wrong.{◌>>=◌, IsWithin}
 use Rattle.cs_table.specs.Table.{Found, nowhere, Meaning, Kind, AreAdded, IsTable, IsFault, Means, IsFaultOf, Denotes, found_at, at_line, lines_from, table_of}
 
--- What reading a line adds, and how it fails, is what the kind of table says, and the wrong text is
--- a part of the line.
+-- reading a line adds, and fails, as the kind of table defines, and the wrong text is a part of the
+-- line
 pub record Agrees {T F : Type 0} (kind : Kind T F) (added : ℕ → T → List ℕ → Result T (Wrong F)) : Type 0 where
   pub takes : (n : ℕ) (table more : T) (line : List ℕ) → added n table line ≡ Ok more → kind.Adds n table line more
   pub again : (n : ℕ) (table more : T) (line : List ℕ) → kind.Adds n table line more → added n table line ≡ Ok more
@@ -24,7 +24,7 @@ pub record Agrees {T F : Type 0} (kind : Kind T F) (added : ℕ → T → List �
 
 -- ---- the place of a fault
 
--- the parts of a line before, at and behind what is wrong
+-- the parts of a line before, at and after what is wrong
 record Parts {F : Type 0} (line : List ℕ) (wrong : Wrong F) : Type 0 where
   front : List ℕ
   text : List ℕ
@@ -57,7 +57,7 @@ module _ {T F : Type 0} (kind : Kind T F) where
   kept P keeps n table total [] none p = (n, subst (P n) (sym none) p)
   kept P keeps n table total (line ∷ lines) (more, adds, rest) p = kept P keeps (n + 1) more total lines rest (keeps n table more line adds p)
 
-  -- the lines before the fault, the line, and why the fault is its
+  -- the lines before the fault, the line, and why it has the fault
   record FailsFrom (n : ℕ) (table : T) (lines : List (List ℕ)) (found : Found F) : Type 0 where
     before : List (List ℕ)
     line : List ℕ
@@ -183,7 +183,7 @@ module _ {T F : Type 0} (kind : Kind T F) where
               fails = subst (kind.Fails s.total s.line) placed s.fails;
             })
 
-    -- The text has no other meaning than the one that is read.
+    -- the text has no other meaning than the one that is read
     pub meant : (text : List ℕ) (m : Meaning T F) → Means kind text m → table_of added kind.empty kind.too_long text ≡ m
     unfolding table_of
     meant text (Ok table) is = rw (le-ltb MAX_TABLE (length text) is.short) (lines_again 1 kind.empty table (lines_of text) is.lines)
@@ -208,7 +208,7 @@ module _ {T F : Type 0} (kind : Kind T F) where
 
 -- ---- the order of the lines
 
--- numbers that rise, and are below one
+-- numbers rise, and are below n
 pub record Rises {X : Type 0} (number : X → ℕ) (n : ℕ) (xs : List X) : Type 0 where
   pub rising : AllPairs (λ x y. number x < number y) xs
   pub below : All (λ x. number x < n) xs

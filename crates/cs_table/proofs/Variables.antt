@@ -48,7 +48,7 @@ put_done : (line : ℕ) (variables : List Variable) → put_all line variables [
 unfolding put_all
 put_done line variables = refl
 
--- settings one after the other, all of them above the line
+-- settings, all of them above the line, are put in one after the other
 puts : List Variable → List SettingLine → List Variable
 puts variables [] = variables
 puts variables (s ∷ ss) = puts (put s.name s.value variables) ss
@@ -155,7 +155,6 @@ env_names line settings env is = ap keys (is ∙ put_all-above line [] settings)
 Fresh : List ℕ → List Variable → Type 0
 Fresh name vs = All (λ v. v.0 ≢ name) vs
 
--- each name comes once
 Apart : List Variable → Type 0
 Apart [] = Unit {0}
 Apart (v ∷ vs) = Fresh v.0 vs × Apart vs
@@ -185,7 +184,6 @@ put_apart name value (v ∷ vs) apart = by_test (bytes_eq v.0 name) refl (put_ap
     by_test true is more = apart
     by_test false is more = (put_fresh name value v.0 vs (λ same. differs v.0 name is (sym same)) apart.0, more)
 
--- a setting more, of another name
 longer : (seen : List SettingLine) (s : SettingLine) (v : Variable) → v.0 ≢ s.name → IsLast seen v → IsLast (seen ++ s ∷ []) v
 longer seen s v other (before, setting, behind, parts, named, valued, last) =
     (before, setting, behind ++ s ∷ [], ap (λ (l : List SettingLine). l ++ s ∷ []) parts ∙ append_assoc before (setting ∷ behind) (s ∷ []), named, valued, All-push (λ t. t.name ≢ v.0) behind s last (λ same. other (sym same)))

@@ -10,7 +10,7 @@ is_quote b = b == 34 || b == 39
 abbrev pub is_name_byte : ℕ → Bool
 is_name_byte b = not (is_blank b) && not (b == 61)
 
--- the name, which begins with no quote, or the name in quotes, which doesn't hold that quote
+-- the name, whose first byte is no quote; or the name in quotes, which doesn't hold that quote
 abbrev pub IsName : List ℕ → List ℕ → Type 0
 IsName text name =
     ((text ≡ name) × Are is_name_byte name × StopsAt is_quote name)
@@ -22,8 +22,8 @@ abbrev pub EndsSolid : List ℕ → Type 0
 EndsSolid text = (text ≡ [])
     ⊎ ((front : List ℕ) × (last : ℕ) × (text ≡ front ++ (last ∷ [])) × (is_blank last ≡ false))
 
--- the value without the blanks after it, which begins with no quote, or the value in quotes, which
--- does not hold that quote
+-- the value, whose first byte is no quote, and blanks after it; or the value in quotes, which
+-- doesn't hold that quote, and blanks after it
 abbrev pub IsValue : List ℕ → List ℕ → Type 0
 IsValue text value =
     ((gap : List ℕ) × (text ≡ value ++ gap) × (list_all is_blank gap ≡ true)
@@ -32,7 +32,7 @@ IsValue text value =
     × (text ≡ quote ∷ (value ++ (quote ∷ gap))) × (list_all (λ b. not (b == quote)) value ≡ true)
     × (list_all is_blank gap ≡ true))
 
--- the name and the value round `=`, with or without blanks
+-- the name and the value, with or without blanks around `=`
 pub record IsSetting (text name value : List ℕ) : Type 0 where
   pub before : List ℕ
   pub gap : List ℕ
@@ -45,7 +45,7 @@ pub record IsSetting (text name value : List ℕ) : Type 0 where
   pub named : IsName before name
   pub valued : IsValue behind value
 
--- A setting begins with a letter, `_` or a quote.
+-- a setting begins with a letter, `_` or a quote (this profile)
 abbrev pub begins_setting : ℕ → Bool
 begins_setting b =
     nat_le 65 b && nat_le b 90 || nat_le 97 b && nat_le b 122 || b == 95 || b == 34 || b == 39
@@ -54,7 +54,7 @@ abbrev pub begins_as_setting : List ℕ → Bool
 begins_as_setting [] = false
 begins_as_setting (b ∷ bs) = begins_setting b
 
--- a setting of the environment, and the number of its line, counted from 1
+-- lines are counted from 1
 pub record SettingLine : Type 0 where
   pub number : ℕ
   pub name : List ℕ

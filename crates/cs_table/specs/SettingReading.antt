@@ -17,7 +17,7 @@ trimmed (b ∷ bs) = if list_all is_blank (b ∷ bs) then [] else b ∷ trimmed 
 abbrev pub is_other : ℕ → ℕ → Bool
 is_other quote b = not (b == quote)
 
--- a text in front of a quote, and what follows the quote
+-- the text before a quote, and what follows the quote
 abbrev pub behind_quote : List ℕ → List ℕ → Option (List ℕ × List ℕ)
 behind_quote text [] = None
 behind_quote text (b ∷ bs) = Some (text, bs)
@@ -25,7 +25,7 @@ behind_quote text (b ∷ bs) = Some (text, bs)
 unfoldable pub quoted_at : ℕ → List ℕ → Option (List ℕ × List ℕ)
 quoted_at quote text = behind_quote (front (is_other quote) text) (after (is_other quote) text)
 
--- a text that is not empty, and what follows it
+-- a text that isn't empty, and what follows it
 abbrev pub filled : List ℕ × List ℕ → Option (List ℕ × List ℕ)
 filled found = if length found.0 == 0 then None else Some found
 
@@ -42,7 +42,6 @@ unfoldable pub value_of : List ℕ → Option (List ℕ)
 value_of [] = Some []
 value_of (b ∷ bs) = if is_quote b then quoted_at b bs >>= alone else Some (trimmed (b ∷ bs))
 
--- what follows `=`
 abbrev pub behind_equals : List ℕ → Option (List ℕ)
 behind_equals [] = None
 behind_equals (b ∷ bs) = if b == 61 then Some bs else None

@@ -1,5 +1,5 @@
--- A table read line by line: what its text denotes, or its first fault and where it stands. What a
--- line adds, and which faults it has, each kind of table says.
+-- A table read line by line: what its text denotes, or its first fault and that fault's place. What
+-- a line adds, and which faults it has, each kind of table defines.
 use Rattle.std.specs.Prelude.{◌≡◌, ℕ, ◌+◌, ◌-◌, ◌<◌, ◌≤◌, ◌⊎◌, nat_lt, if◌then◌else◌, List, [], ◌∷◌, ◌++◌, length, Result, Ok, Err}
 use Rattle.cs_table.specs.declared.fault.Wrong.{Wrong}
 use Rattle.cs_table.specs.declared.fault.TableFault.{TableFault}
@@ -8,25 +8,24 @@ use Rattle.cs_table.specs.declared.limits.TheConstants.{MAX_TABLE}
 use Rattle.cs_table.specs.Text.{lines_of}
 use Rattle.cs_table.specs.Wrong.{◌>>=◌}
 
--- a fault, the number of its line, and the column and the length of the wrong text, all from 1
+-- a fault, its line, and the column and the length of the wrong text; lines and columns from 1
 pub record Found (Fault : Type 0) : Type 0 where
   pub line : ℕ
   pub column : ℕ
   pub size : ℕ
   pub fault : Fault
 
--- the fault of a table that is too long
+-- a table that is too long has its fault at line 0
 abbrev pub nowhere : {Fault : Type 0} → Fault → Found Fault
 nowhere fault = record { line = 0; column = 0; size = 0; fault = fault }
 
--- a table, or its first fault
 abbrev pub Meaning : Type 0 → Type 0 → Type 0
 Meaning Table Fault = Result Table (Found Fault)
 
 -- ---- what a table is and which fault is its first
 
--- What each kind of table says of itself: the table of no lines, the fault of a text that is too
--- long, what a line with its number adds to the table above it, and what is wrong with it there.
+-- how each kind of table defines itself: the table without lines, the fault of a text that is too
+-- long, what a line with its number adds to the table above it, and what is wrong with it there
 pub record Kind (Table Fault : Type 0) : Type 1 where
   pub empty : Table
   pub too_long : Fault
@@ -34,19 +33,19 @@ pub record Kind (Table Fault : Type 0) : Type 1 where
   pub Fails : Table → List ℕ → Wrong Fault → Type 0
 
 module _ {Table Fault : Type 0} (kind : Kind Table Fault) where
-  -- The lines, of which the first has this number, make one table into the other.
+  -- the lines, of which the first has this number, make one table into the other
   abbrev pub AreAdded : ℕ → Table → List (List ℕ) → Table → Type 0
   AreAdded number table [] whole = whole ≡ table
   AreAdded number table (line ∷ lines) whole = (more : Table) × kind.Adds number table line more
       × AreAdded (number + 1) more lines whole
 
-  -- The text is written as this table.
+  -- the text is written as this table
   pub record IsTable (text : List ℕ) (table : Table) : Type 0 where
     pub short : length text ≤ MAX_TABLE
     pub lines : AreAdded 1 kind.empty (lines_of text) table
 
-  -- The first line with a fault: the lines before it make a table. The fault is that of a part of
-  -- the line.
+  -- the first line with a fault: the lines before it make a table, and the wrong text is a part of
+  -- the line
   pub record IsFirstFault (text : List ℕ) (found : Found Fault) : Type 0 where
     pub short : length text ≤ MAX_TABLE
     pub before : List (List ℕ)
@@ -65,17 +64,17 @@ module _ {Table Fault : Type 0} (kind : Kind Table Fault) where
     pub fails : kind.Fails table line
         (record { fault = found.fault; left = length (wrong ++ behind); length = length wrong })
 
-  -- the text's fault: that of its length stands at line 0
+  -- the text's fault; that of its length stands at line 0
   abbrev pub IsFault : List ℕ → Found Fault → Type 0
   IsFault text found = ((MAX_TABLE < length text) × (found ≡ nowhere kind.too_long))
       ⊎ IsFirstFault text found
 
-  -- A text is written as a table, or it has a fault.
+  -- a text is written as a table, or it has a fault
   abbrev pub Means : List ℕ → Meaning Table Fault → Type 0
   Means text (Ok table) = IsTable text table
   Means text (Err found) = IsFault text found
 
-  -- The fault that a call answered is the text's, unless memory ran out.
+  -- the fault that a call answered is the text's, unless memory ran out
   abbrev pub IsFaultOf : List ℕ → TableFault Fault → Type 0
   IsFaultOf text OutOfMemory = Unit {0}
   IsFaultOf text (At line column size fault) =
@@ -83,7 +82,7 @@ module _ {Table Fault : Type 0} (kind : Kind Table Fault) where
 
 -- ---- the same, read from the first line to the last
 
--- What a call answered is what the text means, unless memory ran out.
+-- what a call answered is what the text means, unless memory ran out
 abbrev pub Stops : {Y Fault : Type 0} → TableFault Fault → Meaning Y Fault → Type 0
 Stops OutOfMemory meaning = Unit {0}
 Stops (At line column size fault) meaning =
@@ -94,11 +93,10 @@ abbrev pub Denotes : {X Y Fault : Type 0} → (X → Y) → Meaning Y Fault
 Denotes view meaning (Ok x) = meaning ≡ Ok (view x)
 Denotes view meaning (Err e) = Stops e meaning
 
--- a fault as it is answered
 abbrev pub as_error : {Fault : Type 0} → Found Fault → TableFault Fault
 as_error found = At found.line found.column found.size found.fault
 
--- what is wrong with the line of a number
+-- what is wrong with a line, and the column where it stands
 abbrev pub found_at : {Fault : Type 0} → ℕ → List ℕ → Wrong Fault → Found Fault
 found_at number line wrong =
     record {
@@ -113,7 +111,7 @@ at_line number line (Ok y) = Ok y
 at_line number line (Err wrong) = Err (found_at number line wrong)
 
 module _ {Table Fault : Type 0} (added : ℕ → Table → List ℕ → Result Table (Wrong Fault)) where
-  -- the table with the lines after it, of which the first has this number
+  -- the table after these lines, the first of which has this number
   unfoldable pub lines_from : ℕ → Table → List (List ℕ) → Meaning Table Fault
   lines_from number table [] = Ok table
   lines_from number table (line ∷ lines) = do

@@ -26,11 +26,11 @@ is_solid b = not (is_blank b)
 abbrev pub is_digit : ℕ → Bool
 is_digit b = nat_le 48 b && nat_le b 57
 
--- the word is one of these, as the program holds them
+-- the word is one of these
 abbrev pub is_one_of : List (Bor (List ℕ)) → List ℕ → Bool
 is_one_of words word = list_any (λ w. bytes_eq w.now word) words
 
--- the number that digits stand for, after those that stand for n
+-- the number that digits stand for after those of n
 unfoldable pub decimal_from : ℕ → List ℕ → ℕ
 decimal_from n digits = fold (λ m d. 10 * m + (d - 48)) n digits
 
@@ -41,7 +41,7 @@ decimal digits = decimal_from 0 digits
 abbrev pub Are : (ℕ → Bool) → List ℕ → Type 0
 Are test text = (list_all test text ≡ true) × (text ≢ [])
 
--- the first byte, where there is one, fails the test
+-- the first byte, if there is one, fails the test
 abbrev pub StopsAt : (ℕ → Bool) → List ℕ → Type 0
 StopsAt test [] = Unit {0}
 StopsAt test (b ∷ bs) = test b ≡ false

@@ -1,12 +1,12 @@
--- What is wrong with a line, and where: the line has so many bytes from the wrong text on, and the
--- wrong text has so many.
+-- What is wrong with a line, and where: how many bytes the line has from the wrong text on, and how
+-- many the wrong text has.
 use Rattle.std.specs.Prelude.{◌≡◌, ℕ, ◌+◌, ◌≤◌, true, false, nat_eq, List, [], ◌∷◌, ◌++◌, length, Result, Ok, Err}
 use Rattle.std.specs.List.{list_all, list_any}
 use Rattle.cs_table.specs.Text.{after, is_blank, StopsAt}
 use Rattle.cs_table.specs.SettingReading.{is_other}
 use Rattle.cs_table.specs.declared.fault.Wrong.{Wrong}
 
--- The wrong text is a part of the line.
+-- the wrong text is a part of the line
 abbrev pub IsWithin : {Fault : Type 0} → List ℕ → Wrong Fault → Type 0
 IsWithin line wrong = (wrong.left ≤ length line) × (wrong.length ≤ wrong.left)
 
@@ -22,7 +22,6 @@ whole fault text = record { fault = fault; left = length text; length = length t
 abbrev pub at_front : {Fault : Type 0} → Fault → List ℕ → List ℕ → Wrong Fault
 at_front fault text word = record { fault = fault; left = length text; length = length word }
 
--- the last byte of the line is wrong
 abbrev pub last_byte : {Fault : Type 0} → Fault → Wrong Fault
 last_byte fault = record { fault = fault; left = 1; length = 1 }
 
@@ -31,16 +30,15 @@ abbrev pub before : {Fault : Type 0} → List ℕ → Fault → List ℕ → Wro
 before behind fault text =
     record { fault = fault; left = length text + length behind; length = length text }
 
--- the first zero byte of a line is wrong
 abbrev pub at_nul : {Fault : Type 0} → Fault → List ℕ → Wrong Fault
 at_nul fault line = record { fault = fault; left = length (after (is_other 0) line); length = 1 }
 
--- The same, as a place: no zero byte is before it.
+-- the same as a place: no zero byte is before it
 abbrev pub IsNul : {Fault : Type 0} → Fault → List ℕ → Wrong Fault → Type 0
 IsNul fault line wrong = (clean behind : List ℕ) × (line ≡ clean ++ (0 ∷ behind))
     × (list_any (λ b. nat_eq b 0) clean ≡ false) × (wrong ≡ before behind fault (0 ∷ []))
 
--- All of the line is wrong but for its leading blanks.
+-- all of the line is wrong except its leading blanks
 abbrev pub IsWhole : {Fault : Type 0} → Fault → List ℕ → Wrong Fault → Type 0
 IsWhole fault line wrong = (indent text : List ℕ) × (line ≡ indent ++ text)
     × (list_all is_blank indent ≡ true) × StopsAt is_blank text × (wrong ≡ whole fault text)
@@ -50,12 +48,12 @@ abbrev pub farther : {Fault : Type 0} → ℕ → Wrong Fault → Wrong Fault
 farther more wrong =
     record { fault = wrong.fault; left = wrong.left + more; length = wrong.length }
 
--- What a reader gives, where its fault stands there.
+-- a reader's fault, with its place
 abbrev pub marked : {A Fault : Type 0} → ℕ → ℕ → Result A Fault → Result A (Wrong Fault)
 marked left size (Ok x) = Ok x
 marked left size (Err fault) = Err (record { fault = fault; left = left; length = size })
 
--- What a reader gives of the front of a text, where more bytes follow.
+-- what a reader gives of the front of a text, where more bytes follow
 abbrev pub moved : {A Fault : Type 0} → ℕ → Result A (Wrong Fault) → Result A (Wrong Fault)
 moved more (Ok x) = Ok x
 moved more (Err wrong) = Err (farther more wrong)
@@ -67,7 +65,7 @@ abbrev pub ◌>>=◌ : {A B Fault : Type 0} → Result A Fault → (A → Result
 (Ok x) >>= f = f x
 (Err e) >>= f = Err e
 
--- What a function answered, seen by view, is what reading gives.
+-- a function's answer, seen through `view`, is what reading gives
 abbrev pub Gives : {X Y Fault : Type 0} → (X → Y) → Result X Fault → Result Y Fault → Type 0
 Gives view (Ok x) read = read ≡ Ok (view x)
 Gives view (Err e) read = read ≡ Err e

@@ -41,7 +41,7 @@ impl Setting {
         self.line
     }
 
-    /// Copies the setting. The only error is out of memory.
+    /// Copies the setting.
     pub fn copy(&self, alloc: Global) -> Result<Setting, AllocError>
         ensures { IfOk result (λ setting. setting ≡ self.now) }
     {
@@ -67,7 +67,7 @@ impl Setting {
     }
 }
 
-/// Copies settings. The only error is out of memory.
+/// Copies settings.
 pub fn copy_settings(alloc: Global, settings: &[Setting]) -> Result<Sequence<Setting>, AllocError>
     ensures { IfOk result (λ copies. copies ≡ settings.now) }
 {
@@ -78,10 +78,9 @@ pub fn copy_settings(alloc: Global, settings: &[Setting]) -> Result<Sequence<Set
     Ok(copies)
 }
 
-/// Settings by name, each once: in the place of its first setting, with the value of its last.
+/// Each name once: in the place of its first setting, with the value of its last.
 type Variables<'a> = IndexMap<&'a [u8], &'a [u8]>;
 
-/// The settings above that line, by name.
 fn by_name<'a>(
     alloc: Global,
     settings: &'a [Setting],
@@ -114,8 +113,7 @@ fn copied(alloc: Global, variables: &Variables<'_>) -> Result<Vec<(Bytes, Bytes)
 
 /// Returns the environment of the line with that number: the settings above it (crontab(5)).
 ///
-/// Each name comes once, in the place of its first setting, with the value of its last. The only
-/// error is out of memory.
+/// Each name comes once, in the place of its first setting, with the value of its last.
 pub fn env_of(
     alloc: Global,
     settings: &[Setting],

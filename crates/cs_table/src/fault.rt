@@ -74,7 +74,7 @@ impl<F: Drop> Wrong<F> {
         }
     }
 
-    /// The fault of the line with that number, with its column.
+    /// The fault with its place: the line of that number, and the column.
     pub fn at(self, number: u32, line: &[u8]) -> TableFault<F>
         requires { self.left ≤ length line.now }
         ensures { result ≡ as_error (found_at number line.now self) }
@@ -88,7 +88,7 @@ impl<F: Drop> Wrong<F> {
     }
 }
 
-/// Says where the fault stands, if there is one.
+/// Gives a fault its place.
 pub fn marked<T: Drop, F: Drop>(
     left: usize,
     length: usize,
@@ -106,7 +106,7 @@ pub fn marked<T: Drop, F: Drop>(
     }
 }
 
-/// The same, where more bytes follow.
+/// The same for a reading of the front of a text, where more bytes follow.
 pub fn moved<T: Drop, F: Drop>(more: usize, read: Result<T, Wrong<F>>) -> Result<T, Wrong<F>>
     requires { IfErr read (λ wrong. wrong.left + more < 2 ^ 64) }
     ensures { result ≡ moved more read }

@@ -1,4 +1,4 @@
-//! What crontabs and anacrontabs share: lines, words, settings, and the reading of a table.
+//! Gives what crontabs and anacrontabs share: lines, words, settings, and the reading of a table.
 #![tactic(auto)]
 
 mod environment;

@@ -17,7 +17,7 @@ pub trait Draft: Drop {
 
     ghost added: { ℕ → Self → List ℕ → Result Self (Wrong Self.Fault) };
 
-    /// Adds the content of the line with that number, or returns what is wrong with the line.
+    /// Adds what the line with that number says, or returns what is wrong with it.
     fn add(
         &mut self,
         alloc: Global,
@@ -48,7 +48,7 @@ fn read_lines<T: Draft>(alloc: Global, empty: T, bytes: &[u8]) -> Result<T, Tabl
     Ok(table)
 }
 
-/// Reads the lines of a table, from an empty one on, or returns the first fault: `too_long` at line
+/// Reads a table line by line from an empty one on, or returns the first fault: `too_long` at line
 /// 0 if there are more bytes than [`MAX_TABLE`](crate::MAX_TABLE).
 #[tactic(auto, unfolding(crate::specs::Table::table_of))]
 pub fn read_table<T: Draft>(

@@ -1,4 +1,4 @@
-//! Settings of crontabs and anacrontabs.
+//! Reads settings of crontabs and anacrontabs.
 ghost use Rattle.std.specs.Prelude.{◌≡◌, ℕ, List, IfSome, IsNone};
 ghost use Rattle.std.specs.Option.{option_map};
 ghost use Rattle.cs_table.specs.Text.{front, after};
@@ -32,7 +32,6 @@ pub fn begins_setting(byte: u8) -> bool
         || byte == b'\''
 }
 
-/// The text before the next such quote, and what follows the quote.
 fn quoted(quote: u8, text: &[u8]) -> Option<(&[u8], &[u8])>
     ensures { option_map (λ x. (x.0.now, x.1.now)) result ≡ quoted_at quote text.now }
 {
@@ -40,7 +39,6 @@ fn quoted(quote: u8, text: &[u8]) -> Option<(&[u8], &[u8])>
     Some((&text[..at], &text[at + 1..]))
 }
 
-/// The bytes of a name at the front, and what follows them.
 fn plain_name(text: &[u8]) -> (&[u8], &[u8])
     ensures name { result.0.now ≡ front is_name_byte text.now }
     ensures rest { result.1.now ≡ after is_name_byte text.now }
@@ -52,7 +50,6 @@ fn plain_name(text: &[u8]) -> (&[u8], &[u8])
     text.split_at(len)
 }
 
-/// The name at the front, and what follows it.
 #[tactic(auto, unfolding(crate::specs::SettingReading::name_at))]
 fn name(text: &[u8]) -> Option<(&[u8], &[u8])>
     ensures { option_map (λ x. (x.0.now, x.1.now)) result ≡ name_at text.now }
@@ -71,7 +68,6 @@ fn name(text: &[u8]) -> Option<(&[u8], &[u8])>
     Some((name, behind))
 }
 
-/// The value that a text without leading blanks is.
 #[tactic(auto, unfolding(crate::specs::SettingReading::value_of))]
 fn value(text: &[u8]) -> Option<&[u8]>
     ensures { option_map (λ x. x.now) result ≡ value_of text.now }
@@ -97,9 +93,9 @@ fn setting(text: &[u8]) -> Option<(&[u8], &[u8])>
     Some((name, value(skip_blanks(behind))?))
 }
 
-/// Reads a setting, `name = value`, or returns `None` if the text isn't one (crontab(5)).
+/// Reads a setting, `name = value`; `None` if the text isn't one (crontab(5)).
 ///
-/// Either may be in quotes; blanks around `=` and after the value are ignored. The text has no
+/// Either may be in quotes; blanks around `=` and after the value don't count. The text has no
 /// leading blanks.
 pub fn read_setting(text: &[u8]) -> Option<(&[u8], &[u8])>
     ensures written { IfSome result (λ x. IsSetting text.now x.0.now x.1.now) }

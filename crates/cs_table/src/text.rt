@@ -1,4 +1,4 @@
-//! Lines, words and numbers of crontabs and anacrontabs.
+//! Splits crontabs and anacrontabs into lines, words and numbers.
 ghost use Rattle.std.specs.Prelude.{◌≡◌, ◌==◌, ◌≢◌, [], ◌∷◌, ◌<◌, ◌+◌, length, min};
 ghost use Rattle.std.specs.List.{list_all, list_any};
 ghost use Rattle.cs_table.specs.Text.{is_blank, is_solid, is_digit, is_one_of, front, after, lines_of, decimal};
@@ -6,7 +6,7 @@ ghost use Rattle.cs_table.specs.SettingReading.{is_other, trimmed};
 
 use memchr::memchr;
 
-/// Checks whether the byte is a space or a tab.
+/// Whether the byte is a space or a tab.
 pub fn is_blank(byte: u8) -> bool
     ensures { result ≡ is_blank byte }
 {
@@ -19,14 +19,14 @@ fn is_digit(byte: u8) -> bool
     b'0' <= byte && byte <= b'9'
 }
 
-/// Checks whether the line holds a zero byte.
+/// Whether the line holds a zero byte.
 pub fn has_nul(line: &[u8]) -> bool
     ensures { result ≡ list_any (λ b. b == 0) line.now }
 {
     line.iter().any(|byte| *byte == 0)
 }
 
-/// Returns how many bytes the line has from its first zero byte on, or 0 if it has none.
+/// Returns how many bytes the line has from its first zero byte on; 0 if it has none.
 pub fn nul_left(line: &[u8]) -> usize
     ensures { result ≡ length (after (is_other 0) line.now) }
 {
@@ -51,7 +51,7 @@ pub fn skip_blanks(text: &[u8]) -> &[u8]
     rest
 }
 
-/// Checks whether all bytes are blanks.
+/// Whether all bytes are blanks.
 pub fn are_blank(text: &[u8]) -> bool
     ensures { result ≡ list_all is_blank text.now }
 {
@@ -72,8 +72,8 @@ pub fn trim_end(text: &[u8]) -> &[u8]
     rest
 }
 
-/// Checks whether the word is one of these. It is proved once, where a `match` over byte strings is
-/// proved byte by byte wherever it stands.
+/// Whether the word is one of these. A `match` over byte strings would be proved byte by byte
+/// wherever it stands; this is proved once.
 pub fn is_among(words: &[&[u8]], word: &[u8]) -> bool
     ensures { result ≡ is_one_of words.now word.now }
 {

@@ -27,7 +27,6 @@ if_true b x y e = ap (λ (c : Bool). if c then x else y) e
 if_false : {X : Type 0} (b : Bool) (x y : X) → b ≡ false → (if b then x else y) ≡ y
 if_false b x y e = ap (λ (c : Bool). if c then x else y) e
 
--- the bound of successive days at a minute counted from the first
 at_day : (f : ℕ → ℕ → ℕ) (first n m : ℕ) → m < 1440 * n → at_days (map f (range_with_len first n)) m ≡ f (first + m / 1440) (m % 1440)
 at_day f first zero m lt = absurd (omega (arith, lt))
 at_day f first (suc n) m lt =

@@ -13,7 +13,6 @@ use Rattle.cs_windows.specs.Window.{window, reaches}
 use Rattle.cs_theorem.specs.Certificate.{Certificate}
 use Rattle.cs_theorem.specs.Accepted.{begins_on, occupied, due_in, reach_in, windows_of, IsChain}
 
--- jobs by two sorts of day
 abbrev pub seen : {D : Type 0} → Plan → (ℕ → D → ℕ → Bool) → (ℕ → ℕ) → List ℕ → List (Job D)
 seen p on c js = map (λ j. record { begins = begins_on p on j; lasts = reach p c j }) js
 

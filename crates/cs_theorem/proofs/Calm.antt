@@ -32,7 +32,6 @@ rival_step p i j (Some g) is e =
     let k : p.group j ≡ Some g = the_group g (p.group j) h.1 in
     ap (λ (o : Option ℕ). exclusive_group p o && in_group_of p o i) k ∙ and_from (p.exclusive g) (belongs p g i) h.0 (ap (is_group g) is ∙ eq-eqb g g refl)
 
--- rivals are each other's
 rivals_both : (p : Plan) (i j : ℕ) → rivals p i j ≡ true → rivals p j i ≡ true
 rivals_both p i j e = rival_step p i j (p.group i) refl e
 
@@ -58,7 +57,6 @@ free_step true true false d e h k l = e
 free_step true false c d e h k l = cc
 free_step false b c d e h k l = cc
 
--- what windows weigh depends on their jobs alone
 pub load_jobs : (p : Plan) (f g : Window → Run) (ws : List Window) → ((w : Window) → (f w).job ≡ (g w).job) → load p (map f ws) ≤ load p (map g ws)
 load_jobs p f g ws same =
     let t = λ (h : ℕ → ℕ). let e : total (λ (r : Run). h r.job) (map f ws) ≡ total (λ (r : Run). h r.job) (map g ws) =
@@ -83,7 +81,6 @@ module _ (p : Plan) (plan : IsPlan p) (on : ℕ → Kind → ℕ → Bool) (by :
       same_if false x y z e h = h
 
   module _ (d m first : ℕ) (lt : m < 1440) (is : d + 1 ≡ first + n) where
-    -- the windows of the stretch that ends on this day, which hold this minute
     held : List Window
     held = holders m (windows_of p a (classes a first n))
 
@@ -101,7 +98,6 @@ module _ (p : Plan) (plan : IsPlan p) (on : ℕ → Kind → ℕ → Bool) (by :
         let q : v ≡ w = sym (back v h) ∙ (ap (run_at d) e ∙ back w k) in
         both_ways (same_run v w) two (same_from v w (ap (λ (r : Run). r.job) q) (ap (λ (r : Run). r.at) q))
 
-    -- two windows of one exclusive group, one of them cron's, are both of lock takers
     takers : AreApart p (windows_of p a (classes a first n)) → (v w : Run) → Holds p (reach_in p a) (1440 * d + m) v → Holds p (reach_in p a) (1440 * d + m) w → same_run v w ≡ false → rivals p v.job w.job ≡ true → (is_cron p v.job ≡ true) ⊎ (is_cron p w.job ≡ true) → (takes_lock p v.job ≡ true) × (takes_lock p w.job ≡ true)
     unfolding held
     takers apart v w h k two r c =

@@ -34,7 +34,6 @@ listed_kind k h =
     let is : IsKind (record { month = m.0; dom = d.0; dow = w.0 }) = record { month = (a.0, omega (arith, a.1)); dom = (b.0, omega (arith, b.1)); dow = omega (arith, c.1) } in
     subst IsKind w.2 is
 
--- what follows a kind is one
 pub next_kind : (k l : Kind) → IsKind k → Contains (kinds_after k) l → IsKind l
 next_kind k l h c = let r = All-contains (ComesWithin 10_227 k) (kinds_after k) l (next_come k h) c in subst IsKind r.4 (kind_possible (r.0 + 1))
 
@@ -46,7 +45,6 @@ has_chain (suc n) k (l ∷ ks) c e =
     has_map (λ (q : List Kind). k ∷ q) (flat_map (chains_from n) (kinds_after k)) (l ∷ ks)
     (has_flat (chains_from n) (kinds_after k) l (l ∷ ks) (contains_has (kinds_after k) l c.1) (has_chain n l ks c.2 (omega (arith, e))))
 
--- one of the chains from a kind
 record From (n : ℕ) (k : Kind) (ks : List Kind) : Type 0 where
   rest : List Kind
   is : ks ≡ k ∷ rest
@@ -89,7 +87,6 @@ same_itself (x ∷ xs) = and_from (x == x) (same_list xs xs) (eq-eqb x x refl) (
 pub is_same_list : (xs ys : List ℕ) → xs ≡ ys → same_list xs ys ≡ true
 is_same_list xs ys e = subst (λ (zs : List ℕ). same_list xs zs ≡ true) e (same_itself xs)
 
--- the test for a stretch that successive days have
 pub tells_used : (a : Certificate) (n : ℕ) (s : List ℕ) → 1 ≤ n → Tells (is_used a n s) (IsUsed a n s)
 tells_used a n s l = (
   λ e. let h = has_any (λ (ks : List Kind). same_list (map a.class_of ks) s) (chains n) e in

@@ -14,7 +14,7 @@ use Rattle.cs_theorem.specs.Certificate.{Certificate}
 use Rattle.cs_theorem.specs.Ending.{EndsOn}
 use Rattle.cs_theorem.specs.Faults.{last_of, same_list}
 
--- 28 February, which alone has two that can follow it
+-- 28 February, the one kind that two can follow
 abbrev Is28 : Kind → Type 0
 Is28 k = (k.month ≡ 2) × (k.dom ≡ 28)
 
@@ -28,11 +28,9 @@ cases_28 k =
       | inr ne ↦ inr (λ b. ne b.0)
     ]
 
--- the day of the year p, a weekday after k
 abbrev after_on : Kind → ℕ × ℕ → Kind
 after_on k p = record { month = p.0; dom = p.1; dow = (k.dow + 1) % 7 }
 
--- what follows, where one alone can
 one_follows : (k : Kind) (p : ℕ × ℕ) (l : Kind) → days_after k.month k.dom ≡ p ∷ [] → Contains (kinds_after k) l → after_on k p ≡ l
 one_follows k p l e c =
     let days = subst (λ (ps : List (ℕ × ℕ)). Has (map (after_on k) ps) l) e (contains_has (kinds_after k) l c) in
@@ -45,13 +43,12 @@ single k l q apart c d =
       | inr le ↦ let e = after_last k.month k.dom apart le in sym (one_follows k _ l e c) ∙ one_follows k _ q e d
     ]
 
--- the day after a day of such a kind
 forward : (d : ℕ) (k l : Kind) → kind d ≡ k → (Is28 k → ⊥) → Contains (kinds_after k) l → kind (d + 1) ≡ l
 forward d k l e apart c = single k (kind (d + 1)) l apart (subst (λ (q : Kind). Contains (kinds_after q) (kind (d + 1))) e (kind_followed d)) c
 
 -- ---- days before
 
--- a kind that is no first of a month, and not 29 February, can follow one kind alone
+-- a kind that is neither the first of a month nor 29 February can follow only one kind
 record Before (k l : Kind) : Type 0 where
   month : k.month ≡ l.month
   dom : k.dom + 1 ≡ l.dom
@@ -83,7 +80,6 @@ before_is k l h low high c =
 kind_same : (k q : Kind) → k.month ≡ q.month → k.dom ≡ q.dom → k.dow ≡ q.dow → k ≡ q
 kind_same k q m d w = rw (m, d, w)
 
--- the day before a day of such a kind
 backward : (d : ℕ) (k l : Kind) → IsKind k → kind (d + 1) ≡ l → 2 ≤ l.dom → l.dom ≤ 28 → Contains (kinds_after k) l → kind d ≡ k
 backward d k l h e low high c =
     let a = before_is (kind d) l (kind_possible d) low high (subst (Contains (kinds_after (kind d))) e (kind_followed d)) in
@@ -92,12 +88,10 @@ backward d k l h e low high c =
 
 -- ---- days of a chain
 
--- the kinds are those of the days from d on
 abbrev AreOn : ℕ → List Kind → Type 0
 AreOn d [] = ⊤
 AreOn d (k ∷ ks) = (kind d ≡ k) × AreOn (d + 1) ks
 
--- none but the last is 28 February
 abbrev NoneIs28 : Kind → List Kind → Type 0
 NoneIs28 k [] = ⊤
 NoneIs28 k (l ∷ ks) = (Is28 k → ⊥) × NoneIs28 l ks
@@ -109,7 +103,6 @@ onward d k (l ∷ ks) e c n = (e, onward (d + 1) l ks (forward d k l e n.0 c.1) 
 comes : (k l : Kind) → IsKind k → Contains (kinds_after k) l → ComesWithin 10_227 k l
 comes k l h c = All-contains (ComesWithin 10_227 k) (kinds_after k) l (next_come k h) c
 
--- the day of the month goes on or begins anew
 dom_after : (k l : Kind) → Contains (kinds_after k) l → (l.dom ≡ k.dom + 1) ⊎ (l.dom ≡ 1)
 dom_after k l c =
     elim (cases_28 k) [
@@ -128,7 +121,6 @@ dom_after k l c =
       ]
     ]
 
--- so the two days after 28 February aren't one
 next_not : (k l : Kind) → Is28 k → Contains (kinds_after k) l → Is28 l → ⊥
 next_not k l b c is =
     elim (dom_after k l c) [
@@ -149,7 +141,6 @@ second_not k l m b c d is =
       ]
     ]
 
--- day 0 is the first of its month
 not_first : (d : ℕ) (k : Kind) → kind d ≡ k → 2 ≤ k.dom → 1 ≤ d
 unfolding date_of
 not_first zero k e low = (let first : 1 ≡ k.dom = ap (λ (q : Kind). q.dom) e in absurd (omega (arith, first, low)))
@@ -161,7 +152,6 @@ record Found (ks : List Kind) : Type 0 where
   high : day ≤ 10_227
   on : AreOn day ks
 
--- 28 February first
 found_first : (k l : Kind) (ks : List Kind) → IsChain (k ∷ l ∷ ks) → NoneIs28 l ks → Found (k ∷ l ∷ ks)
 found_first k l ks c n =
     let r = comes k l c.0 c.1 in
@@ -173,7 +163,6 @@ none_after k l (m ∷ []) b c short = (next_not k l b c.1, tt)
 none_after k l (m ∷ q ∷ []) b c short = (next_not k l b c.1, (second_not k l m b c.1 c.2.1, tt))
 none_after k l (m ∷ q ∷ o ∷ ks) b c short = absurd (omega (arith, short))
 
--- 28 February second
 found_second : (k l m : Kind) (ks : List Kind) → Is28 l → IsChain (k ∷ l ∷ m ∷ ks) → length ks ≤ 1 → Found (k ∷ l ∷ m ∷ ks)
 found_second k l m ks b c short =
     let f = found_first l m ks c.2 (none_after l m ks b c.2 (omega (arith, short))) in
@@ -184,7 +173,6 @@ found_second k l m ks b c short =
     let before = before_is k l c.0 (omega (arith, b.1)) (omega (arith, b.1)) c.1 in
     record { day = eve; low = not_first eve k first (omega (arith, before.dom, b.1)); high = omega (arith, f.high); on = (first, subst (λ (d : ℕ). AreOn d (l ∷ m ∷ ks)) same f.on) }
 
--- 28 February third
 found_third : (k l m q : Kind) → Is28 m → IsChain (k ∷ l ∷ m ∷ q ∷ []) → Found (k ∷ l ∷ m ∷ q ∷ [])
 found_third k l m q b c =
     let f = found_second l m q [] b c.2 (omega arith) in
@@ -196,7 +184,6 @@ found_third k l m q b c =
     let before = before_is k l c.0 (omega (arith, later.dom, b.1)) (omega (arith, later.dom, b.1)) c.1 in
     record { day = eve; low = not_first eve k first (omega (arith, before.dom, later.dom, b.1)); high = omega (arith, f.high); on = (first, subst (λ (d : ℕ). AreOn d (l ∷ m ∷ q ∷ [])) same f.on) }
 
--- one kind alone
 after_listed : (k : Kind) (p : ℕ × ℕ) (ps : List (ℕ × ℕ)) → days_after k.month k.dom ≡ p ∷ ps → Contains (kinds_after k) (after_on k p)
 after_listed k p ps e = has_contains (kinds_after k) (after_on k p) (subst (λ (qs : List (ℕ × ℕ)). Has (map (after_on k) qs) (after_on k p)) (sym e) (inl refl))
 
@@ -234,7 +221,6 @@ found (k ∷ l ∷ m ∷ q ∷ o ∷ ks) c low high = absurd (omega (arith, high
 
 -- ---- the day that is found
 
--- where one element passes, the first that does is found
 record FirstOf {X : Type 0} (t : X → Bool) (xs : List X) : Type 0 where
   first : X
   is : find t xs ≡ Some first
@@ -250,7 +236,6 @@ found_in : {X : Type 0} (t : X → Bool) (xs : List X) (x : X) → Has xs x → 
 found_in t [] x h e = absurd h
 found_in t (y ∷ ys) x h e = found_at t y ys x (t y) refl h e (λ rest. found_in t ys x rest e)
 
--- the classes of days of these kinds
 mapped_on : (a : Certificate) (d : ℕ) (ks : List Kind) → AreOn d ks → map (λ e. a.class_of (kind e)) (range_with_len d (length ks)) ≡ map a.class_of ks
 mapped_on a d [] h = refl
 mapped_on a d (k ∷ ks) h = ap (λ (c : ℕ). c ∷ map (λ e. a.class_of (kind e)) (range_with_len (d + 1) (length ks))) (ap a.class_of h.0) ∙ ap (λ (cs : List ℕ). a.class_of k ∷ cs) (mapped_on a (d + 1) ks h.1)

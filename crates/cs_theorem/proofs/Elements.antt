@@ -1,4 +1,3 @@
--- Membership in lists that are mapped, and what holds of each element or each two.
 use Rattle.std.proofs.Common.{◌≡◌, Bool, true, false, ◌||◌, List, [], ◌∷◌, map, refl, sym, ap, ◌∙◌, subst, inl, inr, ◌⊎◌}
 use Rattle.std.specs.List.{AllByRecursion, list_any}
 use Rattle.cs_history.specs.Lists.{EachPair}
@@ -19,7 +18,6 @@ all_has P [] x a h = absurd h
 all_has P (y ∷ ys) x a (inl e) = subst P e a.0
 all_has P (y ∷ ys) x a (inr h) = all_has P ys x a.1 h
 
--- two different elements are in one order or the other
 pub pair_has : {X : Type 0} (R : X → X → Type 0) (xs : List X) (x y : X) → EachPair R xs → Has xs x → Has xs y → (x ≡ y → ⊥) → R x y ⊎ R y x
 pair_has R [] x y a h k n = absurd h
 pair_has R (z ∷ zs) x y a (inl e) (inl f) n = absurd (n (sym e ∙ f))

@@ -13,7 +13,6 @@ use Rattle.cs_windows.proofs.Exact.{exact, reaches_says, says_reaches}
 some_is : {X : Type 0} (x y : X) → Some x ≡ Some y → x ≡ y
 some_is x y e = cc
 
--- a window of one of the days
 pub record Shown {D : Type 0} (os : List (Job D)) (x : ℕ → D) (first n : ℕ) (w : Window) : Type 0 where
   pub day : ℕ
   pub low : first ≤ day
@@ -25,7 +24,6 @@ pub record Shown {D : Type 0} (os : List (Job D)) (x : ℕ → D) (first n : ℕ
   pub reach : w.reach ≡ at.lasts
   pub reaches : reaches w ≡ true
 
--- the day at a place of the list
 day_at : {D : Type 0} (x : ℕ → D) (first n i : ℕ) → i < n → slice_get (map x (range_with_len first n)) i ≡ Some (x (first + i))
 day_at x first n i lt =
     slice_get-map x (range_with_len first n) i

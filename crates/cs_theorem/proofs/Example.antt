@@ -1,4 +1,3 @@
--- A certificate that is accepted.
 use Rattle.std.proofs.Common.{ℕ, zero, suc, ◌+◌, ◌-◌, ◌*◌, ◌%◌, ◌<◌, ◌≤◌, ◌≡◌, ◌==◌, ◌&&◌, not, max, min, Bool, true, false, cond, List, [], ◌∷◌, map, length, Contains, refl, sym, ap, ◌∙◌, subst, arith, if◌then◌else◌, ⊎_elim}
 use Rattle.std.specs.List.{AllByRecursion}
 use Rattle.std.proofs.lemmas.Bool.{eqb-true, ne_eqb, cases_lt, ltb-true, lt-ltb, cond-false}
@@ -47,7 +46,6 @@ listed (k ∷ []) e = absurd (omega (arith, e))
 listed (k ∷ l ∷ []) e = (0, omega arith, refl)
 listed (k ∷ l ∷ q ∷ ks) e = absurd (omega (arith, e))
 
--- the one window that may hold a minute
 is_window : (m : ℕ) (w : Window) → m < 1440 → Has (holders m (windows_of nightly nightly_certificate (0 ∷ 0 ∷ []))) w → (w.job ≡ 0) × (w.day_back ≡ 0) × (w.from ≡ 0)
 is_window m w lt h =
     let f = filter_has (λ w. touches w m (m + 1)) (windows_of nightly nightly_certificate (0 ∷ 0 ∷ [])) w h in
@@ -71,7 +69,6 @@ jobs_zero m lt = all_from_has (λ (w : Window). w.job ≡ 0) (holders m (windows
 no_clash : (i j : ℕ) → i ≡ 0 → j ≡ 0 → clash nightly i j ≡ false
 no_clash i j e f = subst (λ (x : ℕ). clash nightly x j ≡ false) (sym e) (subst (λ (y : ℕ). clash nightly 0 y ≡ false) (sym f) refl)
 
--- what windows of job 0 weigh
 abbrev plain_of : ℕ → ℕ
 plain_of j = if is_cron nightly j && not (takes_lock nightly j) then nightly.weight j else 0
 

@@ -1,4 +1,3 @@
--- Lemmas on the first answer of a list.
 use Rattle.std.proofs.Common.{◌≡◌, ℕ, zero, suc, ◌+◌, ◌-◌, ◌<◌, ◌++◌, List, [], ◌∷◌, Option, Some, None, refl, sym, ap, ◌∙◌, arith}
 use Rattle.std.specs.List.{range_with_len}
 use Rattle.cs_windows.specs.Windows.{day_minutes}
@@ -25,7 +24,6 @@ range_split a (suc n) k =
     let z : (a + 1) + n ≡ a + suc n = omega arith in
     ap (range_with_len a) e ∙ ap (λ xs. a ∷ xs) (range_split (a + 1) n k) ∙ ap (λ b. (a ∷ range_with_len (a + 1) n) ++ range_with_len b k) z
 
--- none so far, and one here
 pub first_of-found : {B : Type 0} (f : ℕ → Option B) (n m : ℕ) (y : B) → n < m → first_of f (range_with_len 0 n) ≡ None → f n ≡ Some y → first_of f (range_with_len 0 m) ≡ Some y
 first_of-found f n m y lt h k =
     let e : m ≡ n + suc (m - n - 1) = omega arith in
@@ -34,13 +32,11 @@ first_of-found f n m y lt h k =
     ∙ (let z : 0 + n ≡ n = omega arith in ap (λ j. or_else (f j) (first_of f (range_with_len ((0 + n) + 1) (m - n - 1)))) z)
     ∙ ap (λ o. or_else o (first_of f (range_with_len ((0 + n) + 1) (m - n - 1)))) k
 
--- none so far, and none here
 pub first_of-more : {B : Type 0} (f : ℕ → Option B) (n : ℕ) → first_of f (range_with_len 0 n) ≡ None → f n ≡ None → first_of f (range_with_len 0 (n + 1)) ≡ None
 first_of-more f n h k =
     ap (first_of f) (range_split 0 n 1) ∙ first_of-append f (range_with_len 0 n) (range_with_len (0 + n) 1) h
     ∙ (let z : 0 + n ≡ n = omega arith in ap (λ j. or_else (f j) None) z) ∙ ap (λ o. or_else o None) k
 
--- the same of the minutes of a day
 pub minute-found : {B : Type 0} (f : ℕ → Option B) (n : ℕ) (y : B) → n < 1440 → first_of f (range_with_len 0 n) ≡ None → f n ≡ Some y → first_of f day_minutes ≡ Some y
 unfolding day_minutes
 minute-found f n y lt h k = first_of-found f n 1440 y lt h k
@@ -49,7 +45,6 @@ pub minutes-none : {B : Type 0} (f : ℕ → Option B) (n : ℕ) → n ≡ 1440 
 unfolding day_minutes
 minutes-none f n e h = ap (λ j. first_of f (range_with_len 0 j)) (sym e) ∙ h
 
--- the same of the numbers below one
 pub below-found : {B : Type 0} (f : ℕ → Option B) (n m : ℕ) (y : B) → n < m → first_of f (range_with_len 0 n) ≡ None → f n ≡ Some y → first_of f (below m) ≡ Some y
 below-found f n m y lt h k = ap (first_of f) (below_range m) ∙ first_of-found f n m y lt h k
 

@@ -62,11 +62,9 @@ pub record Kept (p : Plan) (b : ℕ → ℕ → ℕ) (t : ℕ) (js : List ℕ) (
   pub apart : AreApart p rs
   pub work : (g : ℕ) → HasWaiter p g → left p g t js ws rs ≤ b g t + arrives p g t
 
--- the start
 pub kept_start : (p : Plan) (b : ℕ → ℕ → ℕ) (t : ℕ) → IsReached t → Kept p b t [] [] []
 kept_start p b t c = record { civil = c; pending = tt; queued = tt; goes = tt; apart = tt; work = λ g _. omega arith }
 
--- a run ends
 pub kept_end : (p : Plan) (b : ℕ → ℕ → ℕ) (t : ℕ) (js : List ℕ) (ws : List Run) (rs : List Going) (s : Going → Bool) → Kept p b t js ws rs → Kept p b t js ws (filter s rs)
 kept_end p b t js ws rs s k = record {
   civil = k.civil;
@@ -77,7 +75,6 @@ kept_end p b t js ws rs s k = record {
   work = λ g w. omega (arith, k.work g w, total-filter s (left_going p g t) rs);
 }
 
--- a Begin is skipped
 pub kept_skip : (p : Plan) (b : ℕ → ℕ → ℕ) (t : ℕ) (js : List ℕ) (ws : List Run) (rs : List Going) (s : ℕ → Bool) → Kept p b t js ws rs → Kept p b t (filter s js) ws rs
 kept_skip p b t js ws rs s k = record {
   civil = k.civil;
@@ -91,7 +88,6 @@ kept_skip p b t js ws rs s k = record {
 eq_term : (f : ℕ → ℕ) (j i : ℕ) → (j == i) ≡ true → f j ≤ f i
 eq_term f j i e = let h : f j ≡ f i = ap f (eqb-true j i e) in omega (arith, h)
 
--- nothing is 0 between d and d
 not_since : (p : Plan) (b : ℕ → ℕ → ℕ) (j t : ℕ) → IsBusy p b j t t
 not_since p b j t g w l u a z = absurd (omega (arith, a, z))
 
@@ -170,7 +166,6 @@ kept_begin p b t js ws rs j plan e free k =
 run_term : (f : Run → ℕ) (r q : Run) → same_run r q ≡ true → f r ≤ f q
 run_term f r q e = let h : f r ≡ f q = ap f (run_is r q e) in omega (arith, h)
 
--- a waiter gets the lock
 pub kept_got : (p : Plan) (b : ℕ → ℕ → ℕ) (t : ℕ) (js : List ℕ) (ws : List Run) (rs : List Going) (w : Run) → IsPlan p → list_any (same_run w) ws ≡ true → is_free p rs w.job ≡ true → Kept p b t js ws rs → Kept p b t js (filter (λ v. not (same_run w v)) ws) (rs ++ going w.job w.at t ∷ [])
 kept_got p b t js ws rs w plan e free k =
     let r : Going = going w.job w.at t in
@@ -205,7 +200,6 @@ kept_got p b t js ws rs w plan e free k =
 no_lock : (p : Plan) (g j : ℕ) → takes_lock p j ≡ false → locks p g j ≡ false
 no_lock p g j e = ap (λ x. x && belongs p g j) e
 
--- an anacron job is started
 pub kept_catch : (p : Plan) (b : ℕ → ℕ → ℕ) (t : ℕ) (js : List ℕ) (ws : List Run) (rs : List Going) (j : ℕ) → IsPlan p → is_cron p j ≡ false → j < p.jobs → p.from ≤ t % 1440 → t % 1440 < p.to → Kept p b t js ws rs → Kept p b t js ws (rs ++ going j t t ∷ [])
 kept_catch p b t js ws rs j plan anacron known from to k =
     let r : Going = going j t t in

@@ -10,7 +10,6 @@ use Rattle.cs_history.specs.Calm.{lock_load, load, AreDifferent}
 use Rattle.cs_history.proofs.Lists.{all_zip, all_any, any_at, total_without, total_le, greatest_at}
 use Rattle.cs_history.proofs.Names.{run_is}
 
--- one that is another's is still listed when the other is taken out
 kept_step : (w v : Run) (xs : List Run) → same_run w v ≡ false → (list_any (same_run v) xs ≡ true → list_any (same_run v) (filter (λ x. not (same_run w x)) xs) ≡ true) → (x : Run) → (a b : Bool) → same_run w x ≡ a → same_run v x ≡ b → (b || list_any (same_run v) xs) ≡ true → list_any (same_run v) (cond (not a) (x ∷ filter (λ x. not (same_run w x)) xs) (filter (λ x. not (same_run w x)) xs)) ≡ true
 kept_step w v xs e ih x true true ha hb h = absurd (both_ways (same_run w v) e (subst (λ y. same_run w y ≡ true) (sym (run_is v x hb)) ha))
 kept_step w v xs e ih x true false ha hb h = ih h

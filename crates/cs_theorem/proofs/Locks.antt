@@ -1,4 +1,3 @@
--- lemmas on the tests of a plan
 use Rattle.std.proofs.Common.{ℕ, ◌≡◌, Bool, true, false, not, ◌&&◌, refl, sym, ap, ◌∙◌, Option, Some, None}
 use Rattle.std.proofs.lemmas.Bool.{and_parts, eqb-true, eq-eqb, and_from}
 use Rattle.cs_history.specs.Plan.{Plan, takes, waits_in, takes_lock, shares, is_group, belongs, locks, in_group_of, same_group, both_share, in_the_way}
@@ -22,7 +21,6 @@ waits_takes Try e = refl
 waits_takes Wait e = refl
 waits_takes Shared e = refl
 
--- a job that takes a lock takes that of its group
 pub locks_of : (p : Plan) (g j : ℕ) → takes_lock p j ≡ true → p.group j ≡ Some g → locks p g j ≡ true
 locks_of p g j t e = and_from (takes_lock p j) (belongs p g j) t (ap (is_group g) e ∙ eq-eqb g g refl)
 

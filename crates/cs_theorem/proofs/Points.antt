@@ -1,4 +1,4 @@
--- No fault of a point is found exactly where its rule holds.
+-- No fault of a rule is found exactly if the rule holds.
 use Rattle.std.proofs.Common.{ℕ, ◌+◌, ◌-◌, ◌*◌, ◌<◌, ◌≤◌, ◌≡◌, ◌==◌, ◌&&◌, ◌||◌, not, Bool, true, false, List, [], ◌∷◌, map, find, option_map, length, Contains, Option, Some, None, refl, sym, ap, ◌∙◌, subst, arith}
 use Rattle.std.specs.Prelude.{nat_le, nat_lt, unwrap_or}
 use Rattle.std.specs.List.{AllByRecursion, list_any, list_all, range_with_len}
@@ -51,7 +51,6 @@ module _ (p : Plan) (plan : IsPlan p) (on : ℕ → Kind → ℕ → Bool) (a : 
       (all_map (λ s. is_used a n s.of ≡ true → P s) (λ s. IsUsed a n s.of → P s) a.stretches (λ s h u. h ((tells_used a n s.of some).1 u)))
       (all_map (λ s. IsUsed a n s.of → P s) (λ s. is_used a n s.of ≡ true → P s) a.stretches (λ s h e. h ((tells_used a n s.of some).0 e)))
 
-  -- point 1
   abbrev pub Due : Type 0
   Due = (k : Kind) → IsKind k → (j m : ℕ) → is_cron p j ≡ true → m < 1440 → a.due (a.class_of k) j m ≡ on j k m
 
@@ -64,7 +63,6 @@ module _ (p : Plan) (plan : IsPlan p) (on : ℕ → Kind → ℕ → Bool) (a : 
       (λ h k is j m cron lt. all_has (λ k. (j : ℕ) → j < p.crons → (m : ℕ) → m < 1440 → a.due (a.class_of k) j m ≡ on j k m) all_kinds k h (kind_listed k is) j (ltb-true j p.crons cron) m lt)
       (λ h. all_from_has (λ k. (j : ℕ) → j < p.crons → (m : ℕ) → m < 1440 → a.due (a.class_of k) j m ≡ on j k m) all_kinds (λ k has j l m lt. h k (listed_kind k has) j m (lt-ltb j p.crons l) lt))
 
-  -- point 2
   abbrev pub Listed : Type 0
   Listed = (ks : List Kind) → IsChain ks → length ks ≡ n → Contains (map (λ s. s.of) a.stretches) (map a.class_of ks)
 
@@ -83,7 +81,6 @@ module _ (p : Plan) (plan : IsPlan p) (on : ℕ → Kind → ℕ → Bool) (a : 
       (λ h ks c e. all_has (λ ks. Contains (map (λ (s : Stretch). s.of) a.stretches) (map a.class_of ks)) (chains n) ks h (chain_listed n ks some c e))
       (λ h. all_from_has (λ ks. Contains (map (λ (s : Stretch). s.of) a.stretches) (map a.class_of ks)) (chains n) (λ ks has. let c = listed_chain n ks some has in h ks c.0 c.1))
 
-  -- point 3
   pub waiter_to : (g : ℕ) → HasWaiter p g → (has_waiter p g ≡ true) × (g < p.groups)
   waiter_to g w =
       let l : w.job < p.crons = ltb-true w.job p.crons w.cron in (
@@ -121,7 +118,6 @@ module _ (p : Plan) (plan : IsPlan p) (on : ℕ → Kind → ℕ → Bool) (a : 
       all_swap_in : (g : ℕ) → (HasWaiter p g → InEach a n (Steps g)) → AllByRecursion (λ s. (w : HasWaiter p g) → IsUsed a n s.of → Steps g s) a.stretches
       all_swap_in g h = all_swap (λ (w : HasWaiter p g) s. IsUsed a n s.of → Steps g s) a.stretches h
 
-  -- point 4
   pub tells_clears : (bs : List (ℕ → ℕ)) (due r : ℕ) → Tells (clears_by bs due r) (ClearsBy bs due r)
   tells_clears bs due r = (
     λ e. let h = has_any (λ m. (nat_lt due m && nat_le m (due + r)) && (at_days bs m == 0)) (range_with_len 0 (1440 * length bs)) e in
@@ -132,7 +128,6 @@ module _ (p : Plan) (plan : IsPlan p) (on : ℕ → Kind → ℕ → Bool) (a : 
         (and_from (nat_lt due c.0 && nat_le c.0 (due + r)) (at_days bs c.0 == 0) (and_from (nat_lt due c.0) (nat_le c.0 (due + r)) (lt-ltb due c.0 c.1) (le-leb c.0 (due + r) c.2)) (eq-eqb (at_days bs c.0) 0 c.3.1)),
   )
 
-  -- each due minute of the first day of a stretch has a zero within the reach
   abbrev pub Zeros : ℕ → ℕ → ℕ → Stretch → Type 0
   Zeros j g r s = (m : ℕ) → m < 1440 → a.due (nth s.of 0) j m ≡ true → ClearsBy (map (λ class. a.bound class g) s.of) m r
 
@@ -164,7 +159,6 @@ module _ (p : Plan) (plan : IsPlan p) (on : ℕ → Kind → ℕ → Bool) (a : 
       let g = plan.lock_has_group j takes in
       subst (λ (k : ℕ). Far j k (a.reach j)) (sym (ap (λ (o : Option ℕ). unwrap_or o 0) g.1)) (h j g.0 (lt-ltb j p.crons l) wait (locks_of p g.0 j takes g.1)))
 
-  -- point 5
   pub says_missing : (tree : Option Tree) (ws : List Window) → Says (missing_in tree ws) (ListsAll tree ws)
   says_missing None ws = (λ _. tt, λ _. refl)
   says_missing (Some tree) ws = says_minutes (λ m. option_map (λ (w : Window). (m, w)) (find (λ w. not (lists (entries_at tree m) w)) (holders m ws))) (λ m. AllByRecursion (λ w. lists (entries_at tree m) w ≡ true) (holders m ws))
@@ -178,7 +172,7 @@ module _ (p : Plan) (plan : IsPlan p) (on : ℕ → Kind → ℕ → Bool) (a : 
   says_five = says_each (λ s. option_map (λ (f : ℕ × Window). WindowMissing f.1 (minute_of a n s f.0)) (missing_in s.tree (windows_of p a s.of))) (IsCovered p a)
       (λ s. says_map (λ (f : ℕ × Window). WindowMissing f.1 (minute_of a n s f.0)) (missing_in s.tree (windows_of p a s.of)) (IsCovered p a s) (says_missing s.tree (windows_of p a s.of)))
 
-  -- point 6: a clash is one in the group of the first
+  -- a clash is one in the group of the first
   the_group : (o : Option ℕ) (j : ℕ) → (exclusive_group p o && in_group_of p o j) ≡ true → (g : ℕ) × (o ≡ Some g)
   the_group None j e = absurd (cc)
   the_group (Some g) j e = (g, refl)
@@ -210,7 +204,6 @@ module _ (p : Plan) (plan : IsPlan p) (on : ℕ → Kind → ℕ → Bool) (a : 
   says_six = says_each (λ s. option_map (λ (f : ℕ × Window × Window). Collision (minute_of a n s f.0) f.1 f.2) (collision_in p (windows_of p a s.of))) (λ s. AreApart p (windows_of p a s.of))
       (λ s. says_map (λ (f : ℕ × Window × Window). Collision (minute_of a n s f.0) f.1 f.2) (collision_in p (windows_of p a s.of)) (AreApart p (windows_of p a s.of)) (says_collision (windows_of p a s.of)))
 
-  -- point 7
   pub says_overload : (ws : List Window) → Says (overload_in p n ws) (AreWithin p n ws)
   says_overload ws = says_minutes (λ m. unless (nat_le (load p (map (run_in n) (holders m ws))) p.capacity) (m, load p (map (run_in n) (holders m ws)))) (λ m. load p (map (run_in n) (holders m ws)) ≤ p.capacity)
       (λ m. says_unless (nat_le (load p (map (run_in n) (holders m ws))) p.capacity) (m, load p (map (run_in n) (holders m ws))) (load p (map (run_in n) (holders m ws)) ≤ p.capacity)
@@ -220,7 +213,6 @@ module _ (p : Plan) (plan : IsPlan p) (on : ℕ → Kind → ℕ → Bool) (a : 
   says_seven = says_each (λ s. option_map (λ (f : ℕ × ℕ). OverCapacity (minute_of a n s f.0) f.1) (overload_in p n (windows_of p a s.of))) (λ s. AreWithin p n (windows_of p a s.of))
       (λ s. says_map (λ (f : ℕ × ℕ). OverCapacity (minute_of a n s f.0) f.1) (overload_in p n (windows_of p a s.of)) (AreWithin p n (windows_of p a s.of)) (says_overload (windows_of p a s.of)))
 
-  -- point 8
   pub says_blocked : (ws : List Window) → Says (blocked_in p ws) (AreFree p ws)
   says_blocked ws = says_minutes (λ m. first_of (λ v. option_map (λ (w : Window). (m, v, w)) (find (blocks p m v) (holders m ws))) (holders m ws)) (λ m. AllByRecursion (λ v. AllByRecursion (λ w. blocks p m v w ≡ false) (holders m ws)) (holders m ws))
       (λ m. says_first (λ v. option_map (λ (w : Window). (m, v, w)) (find (blocks p m v) (holders m ws))) (λ v. AllByRecursion (λ w. blocks p m v w ≡ false) (holders m ws))

@@ -56,7 +56,6 @@ module _ (p : Plan) (c : ℕ → ℕ) (b : ℕ → ℕ → ℕ) (plan : IsPlan p
       let k = kept h legal.0 time.0 in
       kept_up p c b bounded (now h) t (pending p h) (waiting p h) (running p h) k legal.1.later (record { first = omega (arith, k.civil.first, legal.1.later); last = legal.1.civil.last }) time.1
 
-  -- a cron run is in its window
   cron_reach : (t : ℕ) (r : Going) → IsReached t → IsGoing p b t r → is_cron p r.run.job ≡ true → (s : Bool) → waits p r.run.job ≡ s → t < r.run.at + (if s then c r.run.job else p.limit r.run.job)
   cron_reach t r civil q cron true e =
       let takes : takes_lock p r.run.job ≡ true = waits_takes (p.mode r.run.job) e in
@@ -96,7 +95,6 @@ module _ (p : Plan) (c : ℕ → ℕ) (b : ℕ → ℕ → ℕ) (plan : IsPlan p
   pub in_window : (t : ℕ) (r : Going) → IsReached t → IsGoing p b t r → Holds p c t (window_of p r)
   in_window t r civil q = window_step t r civil q (is_cron p r.run.job) refl
 
-  -- every running run is inside its window
   pub runs_in_windows : (h : History) → IsLegal p h → IsInTime p h → AllByRecursion (λ r. Holds p c (now h) (window_of p r)) (running p h)
   runs_in_windows h legal time =
       let k = kept h legal time in

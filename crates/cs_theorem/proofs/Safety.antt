@@ -19,8 +19,6 @@ use Rattle.cs_theorem.proofs.Locks.{locks_of, held_apart}
 use Rattle.cs_theorem.proofs.Kept.{IsGoing, IsPending, Kept, fresh}
 use Rattle.cs_theorem.proofs.Runs.{in_window, kept}
 
--- the load of what runs is within that of its windows
-
 parts_step : (p : Plan) → IsPlan p → (j : ℕ) (s a : Bool) → is_cron p j ≡ s → takes_lock p j ≡ a
     → p.weight j ≤ (if s && not a then p.weight j else 0) + total (λ g. if locks p g j then p.weight j else 0) (below p.groups) + (if not s then p.weight j else 0)
 parts_step p plan j false a e f = omega arith
@@ -82,7 +80,6 @@ job_differs p v w false a c = false_from_ne_true (same_run v w) (λ e. both_ways
 cron_window : (p : Plan) (r : Going) → is_cron p r.run.job ≡ true → (window_of p r).at ≡ r.run.at
 cron_window p r e = ap (λ (x : Bool). if x then r.run.at else (r.since - r.since % 1440 + p.from)) e
 
--- the windows of two runs are two
 windows_two : (p : Plan) (r q : Going) (s a : Bool) → is_cron p r.run.job ≡ s → is_cron p q.run.job ≡ a → same_run r.run q.run ≡ false → (not (is_cron p q.run.job) && not (is_cron p r.run.job)) ≡ false → same_run (window_of p r) (window_of p q) ≡ false
 windows_two p r q true true e f names lone = false_from_ne_true (same_run (window_of p r) (window_of p q)) (λ h.
     let x = same_parts (window_of p r) (window_of p q) h in
@@ -94,7 +91,6 @@ windows_two p r q false false e f names lone = absurd (both_ways (not (is_cron p
 way_of : (a b s n : Bool) → a ≡ true → b ≡ true → s ≡ true → ((a && b) && (s && n)) ≡ false → n ≡ false
 way_of a b s n ha hb hs e = sym (ap (λ x. (x && b) && (s && n)) ha ∙ ap (λ x. x && (s && n)) hb ∙ ap (λ x. x && n) hs) ∙ e
 
--- two running runs of one exclusive group share its lock
 apart_step : (p : Plan) (c : ℕ → ℕ) (t : ℕ) → IsCalm p c t → (r q : Going) → Holds p c t (window_of p r) → Holds p c t (window_of p q) → same_run (window_of p r) (window_of p q) ≡ false → in_the_way p q.run.job r.run.job ≡ false → (not (is_cron p q.run.job) && not (is_cron p r.run.job)) ≡ false
     → (s a : Bool) → is_cron p r.run.job ≡ s → is_cron p q.run.job ≡ a → rivals p q.run.job r.run.job ≡ true → not (both_share p q.run.job r.run.job) ≡ false
 apart_step p c t calm r q hr hq two way lone true true e f rival =
@@ -143,7 +139,6 @@ module _ (p : Plan) (c : ℕ → ℕ) (b : ℕ → ℕ → ℕ) (plan : IsPlan p
   off_way true true s n e = ap (λ x. x && n) e
   off_way true false s n e = refl
 
-  -- a pending skip job finds its lock free
   module _ (t : ℕ) (js : List ℕ) (ws : List Run) (rs : List Going) (k : Kept p b t js ws rs) (j : ℕ) (not_started : AllByRecursion (λ r. same_run (run_of j t) r.run ≡ false) rs) (calm : IsCalm p c t) (due : list_any (λ i. j == i) js ≡ true) (skip : p.mode j ≡ Skip) where
     now_due : IsPending p t j
     now_due = let found = any_at (λ i. j == i) (IsPending p t) js due k.pending in subst (IsPending p t) (sym (eqb-true j found.0 found.1)) found.2
@@ -199,7 +194,6 @@ module _ (p : Plan) (c : ℕ → ℕ) (b : ℕ → ℕ → ℕ) (plan : IsPlan p
   names_apart : (h : History) → IsLegal p h → AreApart p (state_of p h)
   names_apart h legal = apart p (state_of p h) (named p h legal)
 
-  -- the headline
   pub safe : ((t : ℕ) → IsReached t → IsCalm p c t) → (h : History) → IsLegal p h → IsInTime p h → IsSafe p h
   safe calm (From s) legal time = let k = kept p c b plan bounded (From s) legal time in safe_now (From s) k (names_apart (From s) legal) (calm s.now k.civil)
   safe calm (h ▸ e) legal time =
@@ -207,7 +201,6 @@ module _ (p : Plan) (c : ℕ → ℕ) (b : ℕ → ℕ → ℕ) (plan : IsPlan p
       let n = kept p c b plan bounded (h ▸ e) legal time in
       (safe calm h legal.0 (before h e time), safe_now (h ▸ e) n (names_apart (h ▸ e) legal) (calm (now (h ▸ e)) n.civil), no_skip h e k (names_apart h legal.0) (calm (now h) k.civil) legal)
 
-  -- at most as many runs as the capacity
   weigh_one : (rs : List Going) → length rs ≤ total (λ (r : Going). p.weight r.run.job) rs
   weigh_one [] = omega arith
   weigh_one (r ∷ rs) = omega (arith, weigh_one rs, plan.weights r.run.job)

@@ -55,7 +55,6 @@ passing_step f t P x xs s r true e = says_to (or_else (f x) (first_of f (filter 
     (says_or (f x) (first_of f (filter t xs)) (P x) (AllByRecursion (λ y. t y ≡ true → P y) xs) s r) (λ h. (λ _. h.0, h.1)) (λ h. (h.0 refl, h.1))
 passing_step f t P x xs s r false e = (λ k. (λ q. absurd (cc), r.0 k), λ h. r.1 h.1)
 
--- of those that pass
 pub says_passing : {A B : Type 0} (f : A → Option B) (t : A → Bool) (P : A → Type 0) → ((x : A) → Says (f x) (P x)) → (xs : List A) → Says (first_of f (filter t xs)) (AllByRecursion (λ x. t x ≡ true → P x) xs)
 says_passing f t P s [] = (λ e. tt, λ p. refl)
 says_passing f t P s (x ∷ xs) = passing_step f t P x xs (s x) (says_passing f t P s xs) (t x) refl
@@ -78,11 +77,9 @@ below_to P n a m lt = all_has P (below n) m a (subst (λ (l : List ℕ). Has l m
 pub below_from : (P : ℕ → Type 0) (n : ℕ) → ((m : ℕ) → m < n → P m) → AllByRecursion P (below n)
 below_from P n h = all_from_has P (below n) (λ m k. h m (let r = range_has 0 n m (subst (λ (l : List ℕ). Has l m) (below_range n) k) in omega (arith, r.1)))
 
--- at each minute
 pub says_minutes : {B : Type 0} (f : ℕ → Option B) (P : ℕ → Type 0) → ((m : ℕ) → Says (f m) (P m)) → Says (first_of f day_minutes) ((m : ℕ) → m < 1440 → P m)
 says_minutes f P s = says_to (first_of f day_minutes) (AllByRecursion P day_minutes) ((m : ℕ) → m < 1440 → P m) (says_first f P s day_minutes) (minutes_to P) (minutes_from P)
 
--- below a number
 pub says_below : {B : Type 0} (f : ℕ → Option B) (P : ℕ → Type 0) (n : ℕ) → ((m : ℕ) → Says (f m) (P m)) → Says (first_of f (below n)) ((m : ℕ) → m < n → P m)
 says_below f P n s = says_to (first_of f (below n)) (AllByRecursion P (below n)) ((m : ℕ) → m < n → P m) (says_first f P s (below n)) (below_to P n) (below_from P n)
 
@@ -115,7 +112,6 @@ tells_passing {X} t u P s (x ∷ xs) = step (t x) refl (tells_passing t u P s xs
     step true e r = let w = tells_and (u x) (list_all u (filter t xs)) (P x) (AllByRecursion (λ y. t y ≡ true → P y) xs) (s x) r in (λ k. (λ _. (w.0 k).0, (w.0 k).1), λ h. w.1 (h.0 refl, h.1))
     step false e r = (λ k. (λ q. absurd (cc), r.0 k), λ h. r.1 h.1)
 
--- one fact for each value, of each element
 pub all_swap : {G X : Type 0} (R : G → X → Type 0) (xs : List X) → ((g : G) → AllByRecursion (R g) xs) → AllByRecursion (λ x. (g : G) → R g x) xs
 all_swap R [] h = tt
 all_swap R (x ∷ xs) h = (λ g. (h g).0, all_swap R xs (λ g. (h g).1))

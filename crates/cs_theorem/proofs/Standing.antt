@@ -24,7 +24,6 @@ both_if : (b x y z w : Bool) → (b ≡ true → x ≡ z) → y ≡ w → (if b 
 both_if true x y z w e f = e refl
 both_if false x y z w e f = f
 
--- any days x, with what is due by `on`
 module _ {D : Type 0} (p : Plan) (c : ℕ → ℕ) (on : ℕ → D → ℕ → Bool) (x : ℕ → D)
     (tells : (j d m : ℕ) → is_cron p j ≡ true → m < 1440 → on j (x d) m ≡ p.due j (1440 * d + m)) where
   begins_is : (j d m : ℕ) → m < 1440 → begins_on p on j (x d) m ≡ opens p j (1440 * d + m)

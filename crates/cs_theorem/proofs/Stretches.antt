@@ -22,7 +22,6 @@ chain : (first n : ℕ) → IsChain (map kind (range_with_len first n))
 chain first zero = tt
 chain first (suc n) = (kind_possible first, followed first n, chain (first + 1) n)
 
--- the classes of n days
 abbrev pub classes : Certificate → ℕ → ℕ → List ℕ
 classes a first n = map (λ e. a.class_of (kind e)) (range_with_len first n)
 

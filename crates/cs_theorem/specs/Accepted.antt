@@ -15,12 +15,12 @@ use Rattle.cs_theorem.specs.Certificate.{Certificate, Stretch}
 use Rattle.cs_windows.specs.Entries.{lists}
 use Rattle.cs_windows.specs.Tree.{Tree, entries_at}
 
--- the reach that a certificate gives a job, its declared time where it gives none
+-- the reach that a certificate gives a job, or its declared time if it gives none
 abbrev pub reach_in : Plan → Certificate → ℕ → ℕ
 reach_in p a j = unwrap_or (a.reach j) (p.limit j)
 
--- whether a window of the job begins at a minute of such a day: where a cron job is due by `on`,
--- and where the catch-up hours begin
+-- whether a window of the job begins at a minute of such a day: a cron job's when the job is due by
+-- `on`, an anacron job's when the catch-up hours begin
 abbrev pub begins_on : {D : Type 0} → Plan → (ℕ → D → ℕ → Bool) → ℕ → D → ℕ → Bool
 begins_on p on j day m = if is_cron p j then on j day m else (m == p.from)
 
@@ -33,7 +33,7 @@ occupied p on c =
 abbrev pub due_in : Certificate → ℕ → ℕ → ℕ → Bool
 due_in a j class m = a.due class j m
 
--- the windows of a stretch
+-- the windows of a stretch that reach its last day
 abbrev pub windows_of : Plan → Certificate → List ℕ → List Window
 windows_of p a s = windows_on (occupied p (due_in a) (reach_in p a)) s
 
@@ -53,29 +53,30 @@ pub record IsModest (p : Plan) (c : ℕ → ℕ) : Type 0 where
   pub cron : (j : ℕ) → is_cron p j ≡ true → reach p c j ≤ 4320
   pub catch : (j : ℕ) → is_cron p j ≡ false → p.limit j ≤ 4320
 
--- the next of the kinds is one that follows
+-- the first of the kinds can follow this one
 abbrev pub IsFollowed : Kind → List Kind → Type 0
 IsFollowed k [] = ⊤
 IsFollowed k (l ∷ ks) = Contains (kinds_after k) l
 
--- kinds of which each follows the one before
+-- kinds of days, each of which can follow the one before
 abbrev pub IsChain : List Kind → Type 0
 IsChain [] = ⊤
 IsChain (k ∷ ks) = IsKind k × IsFollowed k ks × IsChain ks
 
--- some successive days are of these classes
+-- n successive days can have these classes
 pub record IsUsed (a : Certificate) (n : ℕ) (s : List ℕ) : Type 0 where
   pub kinds : List Kind
   pub chain : IsChain kinds
   pub long : length kinds ≡ n
   pub classes : map a.class_of kinds ≡ s
 
--- what the lock takers of g that are due at a minute of a class bring
+-- the sum of the declared times of the cron jobs that are due at a minute of a class and take the
+-- lock of g
 abbrev pub arrivals : Plan → Certificate → ℕ → ℕ → ℕ → ℕ
 arrivals p a g class m = total (λ j. if locks p g j then p.limit j else 0)
     (filter (λ j. a.due class j m) (below p.crons))
 
--- the place of a class in a stretch
+-- the class at a place of a stretch
 abbrev pub nth : List ℕ → ℕ → ℕ
 nth s i = get_or s i 0
 
@@ -99,7 +100,6 @@ ListsAll None ws = ⊤
 ListsAll (Some tree) ws =
     (m : ℕ) → m < 1440 → AllByRecursion (λ w. lists (entries_at tree m) w ≡ true) (holders m ws)
 
--- of the windows of a stretch
 abbrev pub IsCovered : Plan → Certificate → Stretch → Type 0
 IsCovered p a s = ListsAll s.tree (windows_of p a s.of)
 
@@ -117,7 +117,7 @@ AreFree p ws = (m : ℕ) → m < 1440
     → AllByRecursion (λ v. AllByRecursion (λ w. blocks p m v w ≡ false) (holders m ws))
     (holders m ws)
 
--- of each stretch that successive days have
+-- it holds of each stretch whose classes successive days can have
 abbrev pub InEach : Certificate → ℕ → (Stretch → Type 0) → Type 0
 InEach a n P = AllByRecursion (λ s. IsUsed a n s.of → P s) a.stretches
 
@@ -157,11 +157,11 @@ windows_on_days p a first n =
 abbrev pub run_at : ℕ → Window → Run
 run_at d w = record { job = w.job; at = 1440 * (d - w.day_back) + w.from }
 
--- the window of a run
+-- the window of a run, seen from day d
 abbrev pub window_on : Plan → (ℕ → ℕ) → ℕ → Run → Window
 window_on p c d r = window r.job (d - r.at / 1440) (r.at % 1440) (reach p c r.job)
 
--- the bound that the classes of days give a group
+-- the bound that the classes of days give a group at a civil minute
 abbrev pub bound_on : Certificate → ℕ → ℕ → ℕ
 bound_on a g t = a.bound (a.class_of (kind (t / 1440))) g (t % 1440)
 

@@ -1,9 +1,7 @@
--- A fault in the terms of the rules.
 use Rattle.cs_theorem.specs.Faults.{Fault, ClassNotDue, Missing, BacklogRises, ReachTooShort, WindowMissing, Collision, OverCapacity, SkipBlocked}
 use Rattle.cs_theorem.specs.declared.check_fault.CheckFault.{CheckFault}
 use Rattle.cs_theorem.specs.declared.check_fault.CheckFault.TheVariants as faults
 
--- the same fault
 abbrev pub told : CheckFault → Fault
 told (faults.ClassNotDue kind) = ClassNotDue kind
 told (faults.MissingPair kinds) = Missing kinds.items

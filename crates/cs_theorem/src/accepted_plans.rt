@@ -16,8 +16,8 @@ ghost use Rattle.cs_windows.specs.Windows.{windows_on};
 ghost use Rattle.cs_history.specs.Plan.{is_cron};
 ghost use Rattle.cs_theorem.specs.Faults.{first_fault, last_of, stretch_length};
 
-/// Lemma. The windows of the stretch that ends on day d that hold minute m of it are those that
-/// hold the civil minute.
+/// Lemma. The windows of the stretch that ends on day d that hold its minute m are exactly those
+/// that hold the civil minute.
 pub fn windows_are_exact()
     ensures all { (p : Plan) (on : ℕ → Kind → ℕ → Bool) (a : Certificate) (n d m first : ℕ)
         (r : Run) → IsPlan p → IsByKind p on → IsLength p on (reach_in p a) n

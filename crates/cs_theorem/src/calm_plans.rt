@@ -7,7 +7,7 @@ ghost use Rattle.cs_history.specs.declared.run.Run.{Run};
 ghost use Rattle.cs_theorem.specs.Nightly.{nightly, nightly_backlog, nightly_reach};
 
 /// Lemma. In every legal history in which each run ends within its declared time, each running run
-/// is in its window: that of a job that waits for its lock lasts the reach that bounds its backlog;
+/// is in its window. That of a job that waits for its lock lasts the reach that bounds its backlog;
 /// that of a catch-up run is the catch-up window of its day.
 pub fn runs_stay_in_their_windows()
     ensures { (p : Plan) (c : ℕ → ℕ) (b : ℕ → ℕ → ℕ) (h : History) → IsPlan p → IsBounded p c b
@@ -21,7 +21,7 @@ pub fn calm_plans_are_safe()
         → ((t : ℕ) → IsReached t → IsCalm p c t) → IsLegal p h → IsInTime p h → IsSafe p h }
 {}
 
-/// Lemma. If so, at most as many runs as the capacity run at once.
+/// Lemma. In such a history there are never more runs at once than the capacity.
 pub fn few_runs()
     ensures { (p : Plan) (c : ℕ → ℕ) (b : ℕ → ℕ → ℕ) (h : History) → IsPlan p → IsBounded p c b
         → ((t : ℕ) → IsReached t → IsCalm p c t) → IsLegal p h → IsInTime p h

@@ -3,16 +3,16 @@ use cs_civil::{DayKind, Minute};
 use cs_windows::Window;
 
 /// Why a certificate is refused: the first rule that fails, and its first place. A minute `at` is
-/// on the first day from 1970-01-03 on that ends such a stretch of days, or on the day before if
-/// the rule is one of that day.
+/// on the first day that ends such a stretch, of those that begin on 1970-01-02 or later; for a
+/// backlog step it is on the day before.
 #[derive(Drop)]
 pub enum CheckFault {
     /// The class of this kind of day doesn't have the due minutes of the kind.
     ClassNotDue(DayKind),
     /// The certificate has no stretch for the classes of these successive kinds of days.
     MissingPair(ArrayVec<DayKind, 4>),
-    /// The bound of a group, from this minute to the next, falls by more than one minute of runs,
-    /// or leaves out arrivals.
+    /// The bound of the group at the next minute is below the bound plus the arrivals at this one,
+    /// less a minute of runs.
     BacklogRises {
         group: usize,
         at: Minute,
@@ -26,18 +26,18 @@ pub enum CheckFault {
         window: Window,
         at: Minute,
     },
-    /// These two windows of one exclusive group hold this minute.
+    /// These two windows of one exclusive group hold this minute, and may not.
     Collision {
         at: Minute,
         one: Window,
         other: Window,
     },
-    /// The runs that may run at this minute exceed the capacity.
+    /// The runs that may run at this minute weigh more than the capacity.
     OverCapacity {
         at: Minute,
         load: u128,
     },
-    /// The skip job's run that is due at this minute may find its lock held by the other window's.
+    /// The skip job that is due at this minute may find its lock held by a run of the other window.
     SkipBlocked {
         at: Minute,
         skip: Window,

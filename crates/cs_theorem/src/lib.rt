@@ -1,4 +1,4 @@
-//! Why an accepted plan is safe: the theorems over every history, apart from any code.
+//! Proves that an accepted plan is safe: the theorems over every history, apart from any code.
 #![tactic(auto)]
 
 mod accepted_plans;

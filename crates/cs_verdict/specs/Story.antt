@@ -1,4 +1,3 @@
--- Comments of a script.
 use Rattle.std.specs.Prelude.{ℕ, ◌==◌, if◌then◌else◌, List, ◌++◌, codes, map}
 
 -- a byte of a line: a blank in place of a newline

@@ -1,4 +1,3 @@
-//! What runs when a script first breaks a plan.
 ghost use Rattle.std.specs.Prelude.{◌≤◌};
 ghost use Rattle.cs_history.specs.Plan.{first_start};
 
@@ -11,13 +10,12 @@ use std::alloc::{AllocError, Global};
 /// What runs when a script first breaks a plan.
 #[derive(Drop)]
 pub struct Breach {
-    /// The civil minute in which it does.
+    /// The civil minute in which it breaks it.
     pub minute: Minute,
     /// The runs, in order of start.
     pub running: Sequence<Going>,
 }
 
-/// What runs in a trial, and its minute.
 fn breach_in(alloc: Global, trial: &Trial) -> Result<Breach, AllocError> {
     let mut running = Sequence::new(alloc);
     for going in trial.core().running().iter() {
@@ -27,8 +25,8 @@ fn breach_in(alloc: Global, trial: &Trial) -> Result<Breach, AllocError> {
     Ok(Breach { minute, running })
 }
 
-/// Takes an event, and tells whether the trial ends with it: something is broken then, or the event
-/// shows nothing.
+/// Takes an event. True if the trial ends with it: something is broken then, or the event shows
+/// nothing.
 fn ends_with(trial: &mut Trial, event: Event, number: usize) -> Result<bool, AllocError> {
     match trial.take(event, number) {
         Ok(()) => Ok(trial.shown().is_some()),
@@ -37,9 +35,9 @@ fn ends_with(trial: &mut Trial, event: Event, number: usize) -> Result<bool, All
     }
 }
 
-/// What runs when a script that shows the plan unsafe first breaks it. The script starts at
-/// 1970-01-04 00:00 or later, and its events are taken up to that one. The only error is out of
-/// memory, whatever the script shows.
+/// Returns what runs when a script that shows the plan unsafe first breaks it. The script starts at
+/// 1970-01-04 00:00 or later, and its events are taken up to the one that breaks something. The
+/// only error is out of memory, whatever the script shows.
 pub fn first_breach(alloc: Global, plan: &Plan, script: &Script) -> Result<Breach, AllocError>
     requires { first_start ≤ script.now.start.now }
 {

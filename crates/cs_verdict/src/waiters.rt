@@ -1,13 +1,9 @@
-//! What is told of the jobs that take a lock: where nothing bounds how long runs wait for one, and
-//! where a bound of a certificate rises.
-
 use crate::words::{push_group, push_terms};
 use cs_civil::{Bytes, Minute, kind_of, push_number};
 use cs_crontab::{Line, When};
 use cs_plan::{Job, Plan, push_command_name};
 use std::alloc::{AllocError, Global};
 
-/// Whether the job is of the group of that number.
 fn is_of(group: usize, job: Job) -> bool {
     match job.group() {
         Some(own) => usize::from(own) == group,
@@ -24,7 +20,6 @@ fn is_waited_for(plan: &Plan, group: usize) -> bool {
     false
 }
 
-/// Adds the words on each job that takes the lock of the group.
 fn add_takers(
     alloc: Global,
     story: &mut Vec<Bytes>,
@@ -43,8 +38,8 @@ fn add_takers(
     Ok(())
 }
 
-/// The words of the comments on `NoReach`: each group that a job waits for, with the jobs that take
-/// its lock. The only error is out of memory.
+/// Returns the comments on `NoReach`: each group that a job waits for, with the jobs that take its
+/// lock. The only error is out of memory.
 pub fn no_reach(alloc: Global, plan: &Plan) -> Result<Vec<Bytes>, AllocError> {
     let words = b"in one of these groups, a run may wait for the lock for more than three days, or \
         for ever";
@@ -61,7 +56,6 @@ pub fn no_reach(alloc: Global, plan: &Plan) -> Result<Vec<Bytes>, AllocError> {
     Ok(story)
 }
 
-/// Adds the note on a job that takes the lock.
 fn push_taker_note(
     alloc: Global,
     text: &mut Vec<u8>,
@@ -82,9 +76,9 @@ fn push_taker_note(
     text.extend_from_slice(b"\n")
 }
 
-/// A note for each job that takes the lock of the group, and whether it is due at the minute:
-/// `note: line 2 takes the lock: max 90, weight 1, group disk, mode wait, due then`. The only error
-/// is out of memory.
+/// Returns a note for each job that takes the lock of the group, and whether it is due at the
+/// minute: `note: line 2 takes the lock: max 90, weight 1, group disk, mode wait, due then`. The
+/// only error is out of memory.
 pub fn taker_notes(
     alloc: Global,
     plan: &Plan,

@@ -1,4 +1,3 @@
-//! What is told of a breach, in comments between its line and the script.
 ghost use Rattle.std.specs.Prelude.{◌≡◌, ◌++◌, ℕ, List, OnOk, flat_map, map};
 ghost use Rattle.cs_verdict.specs.Story.{comment, on_one_line};
 
@@ -10,10 +9,9 @@ use cs_place::push_shown;
 use cs_plan::{Job, Plan};
 use std::alloc::{AllocError, Global};
 
-/// How many bytes of a command a line shows.
+/// How many bytes of a command are shown.
 const WIDTH: usize = 100;
 
-/// Adds words on one line: with a blank in place of a newline.
 fn push_on_one_line(text: &mut Vec<u8>, words: &[u8]) -> Result<(), AllocError>
     ensures { OnOk result (text.new.items ≡ text.old.items ++ map on_one_line words.now) }
 {
@@ -36,7 +34,7 @@ pub fn push_comments(text: &mut Vec<u8>, story: &[Bytes]) -> Result<(), AllocErr
     Ok(())
 }
 
-/// What a line shows of a text, up to an ASCII byte, so that no character of it is cut in two.
+/// The front of a text that is shown, up to an ASCII byte, so that no character is cut in two.
 fn whole_front(text: &[u8]) -> &[u8] {
     let mut front = text;
     while let [before @ .., last] = front {
@@ -48,7 +46,7 @@ fn whole_front(text: &[u8]) -> &[u8] {
     front
 }
 
-/// The command of a job, nothing if there is no such job.
+/// Empty if there is no such job.
 fn command_at(plan: &Plan, job: usize) -> &[u8] {
     if let Some(line) = plan.crontab().lines().get(job) {
         return line.command();
@@ -63,7 +61,6 @@ fn command_at(plan: &Plan, job: usize) -> &[u8] {
     }
 }
 
-/// The words on a job's command, of one that is longer than a line shows its front.
 fn command_words(alloc: Global, plan: &Plan, job: u16) -> Result<Bytes, AllocError> {
     let command = command_at(plan, usize::from(job));
     let mut words = Vec::from_slice(alloc, b"  ".as_slice())?;
@@ -76,7 +73,6 @@ fn command_words(alloc: Global, plan: &Plan, job: u16) -> Result<Bytes, AllocErr
     Ok(Bytes::from_vec(words))
 }
 
-/// Adds the name of a group, nothing if there is no such group.
 pub(crate) fn push_group(text: &mut Vec<u8>, plan: &Plan, group: usize) -> Result<(), AllocError> {
     match plan.groups().get(group) {
         Some(group) => push_shown(text, group.name()),
@@ -84,7 +80,6 @@ pub(crate) fn push_group(text: &mut Vec<u8>, plan: &Plan, group: usize) -> Resul
     }
 }
 
-/// Adds the name of a job's group, if it has one.
 fn push_group_of(text: &mut Vec<u8>, plan: &Plan, job: Job) -> Result<(), AllocError> {
     match job.group() {
         Some(group) => push_group(text, plan, usize::from(group)),
@@ -115,19 +110,17 @@ pub(crate) fn push_terms(
     text.extend_from_slice(MODES[job.mode() as usize].as_bytes())
 }
 
-/// Adds a minute, the first or the last that has a date where it has none.
+/// Adds a minute. One that has no date becomes the first or the last that has one.
 fn push_minute(text: &mut Vec<u8>, minute: u64) -> Result<(), AllocError> {
     let minute = Minute::new(minute.max(FIRST_MINUTE).min(LAST_MINUTE)).unwrap();
     text.extend_from_slice(&date_text(minute))
 }
 
-/// Adds a run: its job and its minute.
 fn push_run(alloc: Global, text: &mut Vec<u8>, plan: &Plan, run: Run) -> Result<(), AllocError> {
     push_run_name(alloc, text, plan, usize::from(run.job))?;
     push_minute(text, run.at)
 }
 
-/// The words on when a run began, and until when it may go on.
 fn run_words(alloc: Global, plan: &Plan, going: Going) -> Result<Bytes, AllocError> {
     let max = u64::from(plan.job_at(going.run.job).max());
     let mut words = Vec::new(alloc);
@@ -139,7 +132,6 @@ fn run_words(alloc: Global, plan: &Plan, going: Going) -> Result<Bytes, AllocErr
     Ok(Bytes::from_vec(words))
 }
 
-/// The words on what is declared of a run's job, which holds the lock where another is skipped.
 fn terms_words(alloc: Global, plan: &Plan, shown: Shown, job: u16) -> Result<Bytes, AllocError> {
     let mut words = Vec::from_slice(alloc, b"  ".as_slice())?;
     if let Shown::Skipped(skipped, _) = shown {
@@ -151,7 +143,7 @@ fn terms_words(alloc: Global, plan: &Plan, shown: Shown, job: u16) -> Result<Byt
     Ok(Bytes::from_vec(words))
 }
 
-/// Adds the words on a run: when it began, its command, and what is declared of its job.
+/// Adds when a run began, its command, and what is declared of its job.
 fn add_run(
     alloc: Global,
     story: &mut Vec<Bytes>,
@@ -165,7 +157,6 @@ fn add_run(
     Ok(())
 }
 
-/// Adds which lock two runs need, what the load is, or which lock is held.
 fn push_broken_words(
     alloc: Global,
     text: &mut Vec<u8>,
@@ -195,8 +186,6 @@ fn push_broken_words(
     text.extend_from_slice(&date_text(minute))
 }
 
-/// Adds the words on what is broken at the minute, and below them the command of the run that is
-/// skipped. The only error is out of memory.
 fn add_broken(
     alloc: Global,
     story: &mut Vec<Bytes>,
@@ -213,7 +202,7 @@ fn add_broken(
     Ok(())
 }
 
-/// Adds what is broken at the minute, in comments: which lock two runs need, what the load is, or
+/// Adds in comments what is broken at the minute: which lock two runs need, what the load is, or
 /// which lock is held, and below that the command of the run that is skipped. The only error is out
 /// of memory.
 pub fn push_broken(
@@ -231,8 +220,8 @@ pub fn push_broken(
     push_comments(text, story.as_slice())
 }
 
-/// The story of a breach, the words of a comment each: the runs that take part, each with its
-/// command, what is broken, and why the script has outages. The only error is out of memory.
+/// Returns the story of a breach, the words of a comment each: the runs that take part, each with
+/// its command; what is broken; and why the script has outages. The only error is out of memory.
 pub fn story(
     alloc: Global,
     plan: &Plan,

@@ -1,4 +1,3 @@
--- The pieces of a bound that follows what arrives.
 use Rattle.std.proofs.Common.{◌≡◌, ◌≢◌, ℕ, zero, suc, ◌+◌, ◌-◌, ◌<◌, ◌≤◌, ◌==◌, Bool, true, false, List, [], ◌∷◌, fold, get_or, length, min, refl, sym, ap, ◌∙◌, arith, add-one, if◌then◌else◌}
 use Rattle.std.proofs.lemmas.Bool.{le-leb, eqb-true, eq-eqb, both_ways}
 use Rattle.cs_wait.specs.declared.backlog.Piece.{Piece}
@@ -6,7 +5,6 @@ use Rattle.cs_wait.specs.declared.backlog.TheConstants.{MAX_BACKLOG}
 use Rattle.cs_wait.specs.Bounds.{IsBacklog, IsBacklogFrom, at, decided, following, following_from}
 use Rattle.cs_wait.proofs.Pieces.{later_decide_nothing}
 
--- the bound a minute after one that has a bound, and at which so much arrives
 abbrev pub after : ℕ → ℕ → ℕ
 after bound arrives = min MAX_BACKLOG (bound + arrives - 1)
 
@@ -16,12 +14,10 @@ bound_later bound [] n = bound
 bound_later bound (a ∷ more) zero = bound
 bound_later bound (a ∷ more) (suc n) = bound_later (after bound a) more n
 
--- what begins later begins no sooner
 sooner : (least first : ℕ) (ps : List Piece) → least ≤ first → IsBacklogFrom first ps → IsBacklogFrom least ps
 sooner least first [] le k = tt
 sooner least first (p ∷ ps) le k = (omega (arith, le, k.0), k.1, k.2, k.3, k.4)
 
--- with a piece at the minute, where its value is in range
 with_one : (same : Bool) (minute bound shown : ℕ) (rest : List Piece) → (bound == shown) ≡ same → minute < 1440 → bound ≤ MAX_BACKLOG → shown ≤ bound → IsBacklogFrom (minute + 1) rest → IsBacklogFrom minute (if same then rest else record { minute = minute; value = bound } ∷ rest)
 with_one true minute bound shown rest e lt small over k = sooner minute (minute + 1) rest (omega arith) k
 with_one false minute bound shown rest e lt small over k =
@@ -33,19 +29,16 @@ backlog_from minute bound shown [] fits small over = tt
 backlog_from minute bound shown (a ∷ more) fits small over =
     with_one (bound == shown) minute bound shown (following_from (minute + 1) (after bound a) (bound - 1) more) refl (omega (arith, fits)) small over (backlog_from (minute + 1) (after bound a) (bound - 1) more (omega (arith, fits)) (omega arith) (omega (arith, small)))
 
--- they are the pieces of a backlog
 pub following_is_backlog : (first : ℕ) (arrivals : List ℕ) → length arrivals ≤ 1440 → first ≤ MAX_BACKLOG → IsBacklog (following first arrivals)
 unfolding following
 following_is_backlog first arrivals fits small = backlog_from 0 first 0 arrivals (omega (arith, fits)) small (omega arith)
 
--- what the pieces so far make at the minute decides until one begins there
 begins_with : (same : Bool) (minute bound shown made : ℕ) (rest : List Piece) → (bound == shown) ≡ same → made ≡ shown → IsBacklogFrom (minute + 1) rest → fold (decided minute) made (if same then rest else record { minute = minute; value = bound } ∷ rest) ≡ bound
 begins_with true minute bound shown made rest e is k = later_decide_nothing minute (minute + 1) made rest (omega arith) k ∙ (is ∙ sym (eqb-true bound shown e))
 begins_with false minute bound shown made rest e is k =
     let here : decided minute made (record { minute = minute; value = bound }) ≡ bound = rw (le-leb minute minute (omega arith)) (omega arith) in
     later_decide_nothing minute (minute + 1) (decided minute made (record { minute = minute; value = bound })) rest (omega arith) k ∙ here
 
--- at a later minute
 goes_on : (same : Bool) (minute bound shown made t : ℕ) (rest : List Piece) → (bound == shown) ≡ same → minute + 1 ≤ t → made ≡ shown - (t - minute) → fold (decided t) made (if same then rest else record { minute = minute; value = bound } ∷ rest) ≡ fold (decided t) (bound - 1 - (t - (minute + 1))) rest
 goes_on true minute bound shown made t rest e le is = let f : bound ≡ shown = eqb-true bound shown e in ap (λ (b : ℕ). fold (decided t) b rest) (omega (arith, is, f, le))
 goes_on false minute bound shown made t rest e le is =
@@ -70,7 +63,6 @@ at_from (a ∷ more) minute bound shown made (suc n) fits within small over is =
     ∙ (goes_on (bound == shown) minute bound shown made ((minute + 1) + n) rest refl (omega arith) made_now
     ∙ (ap (λ (b : ℕ). fold (decided ((minute + 1) + n)) b rest) left_now ∙ later))
 
--- the bound that the pieces make is the one that they were written for
 at_following : (first : ℕ) (arrivals : List ℕ) (n : ℕ) → length arrivals ≤ 1440 → n < length arrivals → first ≤ MAX_BACKLOG → at (following first arrivals) n ≡ bound_later first arrivals n
 unfolding following
 at_following first arrivals n fits within small =
@@ -86,7 +78,6 @@ later_by_one bound arrivals n within = rw add-one (by_one bound arrivals n withi
     by_one bound (a ∷ b ∷ more) zero within = refl
     by_one bound (a ∷ b ∷ more) (suc n) within = by_one (after bound a) (b ∷ more) n (omega (arith, within))
 
--- it is the first at minute 0
 pub following_begins : (first : ℕ) (arrivals : List ℕ) → length arrivals ≡ 1440 → first ≤ MAX_BACKLOG → at (following first arrivals) 0 ≡ first
 following_begins first [] long small = absurd (omega (arith, long))
 following_begins first (a ∷ more) long small = at_following first (a ∷ more) 0 (omega (arith, long)) (omega (arith, long)) small

@@ -22,8 +22,7 @@ abbrev pub at : List Piece → ℕ → ℕ
 at ps minute = fold (decided minute) 0 ps
 
 -- from a minute of the day on, where the bound is `bound` and the pieces so far make it `shown`: a
--- piece where they differ, and the bound of the next minute is what this one has and what arrives,
--- less one
+-- piece if they differ; the next bound is this one plus what arrives, less one, up to MAX_BACKLOG
 abbrev pub following_from : ℕ → ℕ → ℕ → List ℕ → List Piece
 following_from minute bound shown [] = []
 following_from minute bound shown (a ∷ more) =
@@ -37,7 +36,6 @@ following_from minute bound shown (a ∷ more) =
 unfoldable pub following : ℕ → List ℕ → List Piece
 following first arrivals = following_from 0 first 0 arrivals
 
--- nothing arrives at any minute
 unfoldable pub none : List ℕ
 none = replicate 1440 0
 
@@ -52,7 +50,7 @@ abbrev pub StepsHold : (ℕ → ℕ) → (ℕ → ℕ) → (ℕ → ℕ) → Typ
 StepsHold before arrive day =
     (t : ℕ) → t < MINUTES_OF_DAY → before t + arrive t - 1 ≤ at_days (before ∷ day ∷ []) (t + 1)
 
--- the same of the steps within a day: at each minute of the day but the last
+-- the same within a day: at each minute of the day but the last
 abbrev pub StepsHoldWithin : (ℕ → ℕ) → (ℕ → ℕ) → Type 0
 StepsHoldWithin bound arrive =
     (t : ℕ) → t + 1 < MINUTES_OF_DAY → bound t + arrive t - 1 ≤ bound (t + 1)

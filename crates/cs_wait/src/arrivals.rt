@@ -18,7 +18,7 @@ impl Model for Arrivals {
 }
 
 impl Arrivals {
-    /// Returns no arrivals.
+    /// Returns arrivals of nothing at any minute.
     pub fn none() -> Self
         ensures value { result ≡ none }
         ensures zero { (minute : ℕ) → minute < 1440 → slice_index result minute ≡ 0 }
@@ -44,7 +44,6 @@ impl Arrivals {
         self.sums[usize::from(minute)]
     }
 
-    /// The arrivals at each minute of the day, in minutes of runs.
     pub(crate) fn by_minute(&self) -> &[u32]
         ensures value { result.now ≡ self.now }
         ensures long { length result.now ≡ 1440 }
@@ -67,16 +66,15 @@ pub fn steps_within(bounds: &Backlog, arrivals: &Arrivals) -> bool
     true
 }
 
-/// Whether a bound follows from that of a minute before plus the arrivals, less one minute of runs.
 fn follows(before: u32, arrives: u32, bound: u32) -> bool
     ensures { IsTrue result ↔ (before + arrives - 1 ≤ bound) }
 {
     u64::from(before) + u64::from(arrives) <= u64::from(bound) + 1
 }
 
-/// Checks the step from a minute of the first day, `before`, to the next minute, after 23:59 the
-/// first of the next day, `day`: the later bound is at least the earlier plus the arrivals of the
-/// first day, less one, and at least 0.
+/// Checks the step from a minute of the first day, `before`, to the next minute, which after 23:59
+/// is the first of the next day, `day`: the later bound is at least the earlier plus the arrivals
+/// of the first day, less one, and at least 0.
 pub fn step_ok(before: &Backlog, arrivals: &Arrivals, day: &Backlog, minute: u16) -> bool
     requires { minute < MINUTES_OF_DAY }
     ensures { IsTrue result ↔ (at before.now minute + slice_index arrivals.now minute - 1
@@ -94,7 +92,6 @@ pub fn steps_ok(before: &Backlog, arrivals: &Arrivals, day: &Backlog) -> bool
     steps_within(before, arrivals) && step_ok(before, arrivals, day, MINUTES_OF_DAY - 1)
 }
 
-/// The bound at a minute counted from the start of the first of two successive days.
 fn bound_over(before: &Backlog, day: &Backlog, minute: u16) -> u32
     requires { minute ≤ MINUTES_OF_DAY }
     ensures { result ≡ at_days (at before.now ∷ at day.now ∷ []) minute }

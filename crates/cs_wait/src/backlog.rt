@@ -32,16 +32,17 @@ impl Model for Backlog {
     ghost invariant = { λ b. IsBacklog b.list.items };
 }
 
-/// The pieces make no backlog: their minutes don't rise strictly below 1,440, or a value is not
-/// from 1 to 1,000,000.
+/// The pieces make no backlog: their minutes don't rise strictly below 1,440, or a value isn't from
+/// 1 to 1,000,000.
 #[derive(Clone, Copy, PartialEq, Eq)]
 pub struct BadPiece;
 
 impl Backlog {
-    /// Returns the backlog of these pieces, without allocating.
+    /// Returns the backlog of these pieces, without allocating. Without pieces the bound is 0
+    /// everywhere.
     ///
-    /// `BadPiece` if and only if the minutes don't rise strictly below 1,440, or a value is not
-    /// from 1 to 1,000,000 (this profile). Without pieces the bound is 0 everywhere.
+    /// The error comes if and only if the minutes don't rise strictly below 1,440, or a value isn't
+    /// from 1 to 1,000,000 (this profile).
     pub fn new(list: Vec<Piece>) -> Result<Backlog, BadPiece>
         ensures value { IfOk result (λ b. b ≡ list.items) }
         ensures ok { IsOk result ↔ IsBacklog list.items }
@@ -62,7 +63,6 @@ impl Backlog {
         }
     }
 
-    /// The backlog of pieces known to make one, without allocating.
     pub(crate) fn of_pieces(list: Vec<Piece>) -> Backlog
         requires { IsBacklog list.items }
         ensures { result ≡ list.items }
@@ -80,7 +80,7 @@ impl Backlog {
 
     /// Returns the bound at a minute of the day: 0 before the first piece, then the value of the
     /// latest piece, less one for each minute since, at least 0. A minute past the day counts on
-    /// from its last piece.
+    /// from the last piece.
     pub fn at(&self, minute: u16) -> u32
         ensures { result ≡ at self.now minute }
     {
@@ -110,7 +110,7 @@ struct Walk {
     bound: u32,
 }
 
-/// The walk past the piece that begins at the minute, if one does: its bound is the minute's.
+/// The walk past the piece that begins at the minute, if one does. Its bound is the minute's.
 fn turn(list: &[Piece], walk: Walk, minute: u16) -> Walk
     requires { IsBacklogFrom minute (drop walk.place list.now) }
     ensures left { IsBacklogFrom (minute + 1) (drop result.place list.now) }
@@ -127,7 +127,6 @@ fn turn(list: &[Piece], walk: Walk, minute: u16) -> Walk
     walk
 }
 
-/// Whether the minutes rise strictly below 1,440 and the values are in range.
 fn is_backlog(list: &[Piece]) -> bool
     ensures { IsTrue result ↔ IsBacklog list.now }
 {
@@ -145,7 +144,6 @@ fn is_backlog(list: &[Piece]) -> bool
     true
 }
 
-/// How many pieces begin by a minute: those are the first ones.
 fn begun_by(list: &[Piece], minute: u16) -> usize
     requires { IsBacklog list.now }
     ensures begun { All (λ piece. piece.minute ≤ minute) (take result list.now) }
@@ -155,7 +153,6 @@ fn begun_by(list: &[Piece], minute: u16) -> usize
     list.partition_point(|piece| piece.minute <= minute)
 }
 
-/// The bound at a minute by the pieces. Pieces that begin later make no difference.
 fn at_minute(list: &[Piece], minute: u16) -> u32
     requires { IsBacklog list.now }
     ensures { result ≡ at list.now minute }

@@ -7,8 +7,8 @@ use cs_civil::MINUTES_OF_DAY;
 use std::alloc::{AllocError, Global};
 
 impl Backlog {
-    /// Returns the backlog that is `first` at minute 0 and follows the arrivals, both in
-    /// minutes of runs: each bound is the one before plus the arrivals there, less one, from 0 to
+    /// Returns the backlog that is `first` at minute 0 and follows the arrivals, both in minutes of
+    /// runs: each bound is the one before plus the arrivals there, less one, from 0 to
     /// [`MAX_BACKLOG`]. It has a piece only where the bound isn't one less than a minute before.
     /// The only error is out of memory.
     pub fn following(alloc: Global, first: u32, arrivals: &Arrivals) -> Result<Backlog, AllocError>
@@ -36,7 +36,6 @@ impl Backlog {
     }
 }
 
-/// The bound a minute after this bound and these arrivals.
 fn bound_after(bound: u32, arrives: u32) -> u32
     ensures { result ≡ min MAX_BACKLOG (bound + arrives - 1) }
 {

@@ -8,7 +8,7 @@ use cs_civil::MINUTES_OF_DAY;
 /// at the due minute has had the lock.
 ///
 /// `days` are the bounds of successive days; minutes count from the start of the first. Minutes
-/// past the last day are ignored, so no days never clear. `due` and `reach` may be any numbers.
+/// past the last day are ignored, so that no days never clear.
 pub fn clears_by(days: &[&Backlog], due: u16, reach: u16) -> bool
     ensures { IsTrue result ↔ ClearsBy (map (λ b. at b.now) days.now) due reach }
 {
@@ -21,7 +21,6 @@ pub fn clears_by(days: &[&Backlog], due: u16, reach: u16) -> bool
     false
 }
 
-/// Whether a minute counted from the start of the first day is on one of the days and has bound 0.
 fn is_clear_at(days: &[&Backlog], minute: u32) -> bool
     ensures { IsTrue result ↔ IsClearAt (map (λ b. at b.now) days.now) minute }
 {

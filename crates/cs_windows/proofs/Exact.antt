@@ -9,7 +9,6 @@ use Rattle.cs_windows.specs.Window.{window, reaches}
 use Rattle.cs_windows.specs.Windows.{Job, IsWindowOn, starting, day_minutes, windows_from, windows_on}
 use Rattle.cs_windows.proofs.Members.{Has, has_contains, contains_has, has_left, has_right, has_cases, has_filter, filter_has, has_flat, flat_has, has_range, range_has}
 
--- the window of a job that begins at this minute of such a day
 record Begins {D : Type 0} (jobs : List (Job D)) (day : D) (back minute first : ℕ) (w : Window) : Type 0 where
   place : ℕ
   job_is : w.job ≡ first + place
@@ -52,7 +51,6 @@ has_starting (x ∷ os) day back minute job (suc i) o l b =
     subst (λ (j : ℕ). Has (starting day back minute job (x ∷ os)) (window j back minute o.lasts)) s
     (begin_later x os day back minute job (window ((job + 1) + i) back minute o.lasts) (has_starting os day back minute (job + 1) i o l b) (x.begins day minute))
 
--- a window of one day
 from_has : {D : Type 0} (os : List (Job D)) (day : D) (back : ℕ) (w : Window) → Has (windows_from os day back) w → (w.from < 1440) × Begins os day back w.from 0 w
 unfolding day_minutes
 from_has os day back w h =
@@ -69,7 +67,6 @@ has_from os day back m i o lt l b =
     has_flat (λ minute. starting day back minute 0 os) (range_with_len 0 1440) m (window i back m o.lasts) (has_range 0 1440 m (omega arith) (omega (arith, lt)))
     (subst (λ (j : ℕ). Has (starting day back m 0 os) (window j back m o.lasts)) s (has_starting os day back m 0 i o l b))
 
--- what it is to reach the day looked at
 both_true : (a b : Bool) → (a && b) ≡ true → (a ≡ true) × (b ≡ true)
 both_true true b e = (refl, e)
 both_true false b e = cc
@@ -102,7 +99,6 @@ module _ {D : Type 0} (jobs : List (Job D)) where
   has_is [] w h = absurd h
   has_is (day ∷ days) w h = ⊎_elim (here day days w) (λ (k : Has (windows_on jobs days) w). later day days w (has_is days w k)) (has_cases (filter reaches (windows_from jobs day (length days))) (windows_on jobs days) w h)
 
-  -- by the place of the day
   is_at : (days : List D) (w : Window) (place : ℕ) (day : D) (job : Job D) → slice_get jobs w.job ≡ Some job → place + w.day_back + 1 ≡ length days → slice_get days place ≡ Some day → w.from < 1440 → job.begins day w.from ≡ true → w.reach ≡ job.lasts → reaches w ≡ true → Has (windows_on jobs days) w
   is_at [] w place day job l back on lt b reach r = absurd (omega (arith, back))
   is_at (x ∷ days) w zero day job l back on lt b reach r =

@@ -1,4 +1,3 @@
--- Lemmas on lists over the minutes of a day.
 use Rattle.std.proofs.Common.{◌≡◌, ℕ, zero, suc, ◌+◌, ◌-◌, ◌<◌, ◌≤◌, ◌++◌, Bool, List, [], ◌∷◌, refl, sym, ap, ◌∙◌, filter, arith, append_assoc, append-nil}
 use Rattle.std.specs.Prelude.{flat_map}
 use Rattle.std.specs.List.{range_with_len}
@@ -6,24 +5,20 @@ use Rattle.std.proofs.lemmas.List.Concat.{flat_map-append}
 use Rattle.std.proofs.lemmas.List.Elements.{filter-append}
 use Rattle.cs_windows.specs.Windows.{day_minutes}
 
--- one more number
 pub range_more : (a n : ℕ) → range_with_len a (suc n) ≡ range_with_len a n ++ (a + n) ∷ []
 range_more a zero = let e : a ≡ a + 0 = omega arith in ap (λ x. x ∷ []) e
 range_more a (suc n) = let e : (a + 1) + n ≡ a + suc n = omega arith in ap (λ l. a ∷ l) (range_more (a + 1) n) ∙ ap (λ x. a ∷ (range_with_len (a + 1) n ++ x ∷ [])) e
 
--- one more number, and what it gives
 flat_more : {A : Type 0} (f : ℕ → List A) (a n : ℕ) → flat_map f (range_with_len a (suc n)) ≡ flat_map f (range_with_len a n) ++ f (a + n)
 flat_more f a n =
     ap (flat_map f) (range_more a n) ∙ flat_map-append f (range_with_len a n) ((a + n) ∷ []) ∙ ap (λ xs. flat_map f (range_with_len a n) ++ xs) (append-nil (f (a + n)))
 
--- one more minute of a day
 pub minutes_more : {A : Type 0} (f : ℕ → List A) (n : ℕ) → flat_map f (range_with_len 0 (n + 1)) ≡ flat_map f (range_with_len 0 n) ++ f n
 minutes_more f n =
     let e : n + 1 ≡ suc n = omega arith in
     let z : 0 + n ≡ n = omega arith in
     ap (λ k. flat_map f (range_with_len 0 k)) e ∙ flat_more f 0 n ∙ ap (λ k. flat_map f (range_with_len 0 n) ++ f k) z
 
--- the whole day
 pub minutes_all : (n : ℕ) → n ≡ 1440 → range_with_len 0 n ≡ day_minutes
 unfolding day_minutes
 minutes_all n e = ap (range_with_len 0) e
@@ -37,7 +32,6 @@ range_step f from minute start now next low h k =
     k ∙ ap (λ xs. xs ++ f minute) h ∙ append_assoc start old (f minute)
     ∙ ap (λ xs. start ++ xs) (sym (ap (λ j. flat_map f (range_with_len from j)) n ∙ flat_more f from (minute - from) ∙ ap (λ m. old ++ f m) e))
 
--- a range in two parts
 range_join : (a j n : ℕ) → range_with_len a (j + n) ≡ range_with_len a j ++ range_with_len (a + j) n
 range_join a zero n =
     let e : a ≡ a + 0 = omega arith in
@@ -55,7 +49,6 @@ flat_same f g a (suc n) h =
     ap (λ xs. xs ++ flat_map f (range_with_len (a + 1) n)) (h a (omega arith) (omega arith))
     ∙ ap (λ xs. g a ++ xs) (flat_same f g (a + 1) n (λ m low high. h m (omega arith) (omega arith)))
 
--- what passes of each, and what passes of all
 flat_filter : {X A : Type 0} (p : A → Bool) (f : X → List A) (xs : List X) → flat_map (λ x. filter p (f x)) xs ≡ filter p (flat_map f xs)
 flat_filter p f [] = refl
 flat_filter p f (x ∷ xs) = ap (λ ys. filter p (f x) ++ ys) (flat_filter p f xs) ∙ sym (filter-append p (f x) (flat_map f xs))

@@ -53,7 +53,6 @@ rises-append P Q f [] ys p q r s = s
 rises-append P Q f (x ∷ xs) ys p q r s =
     (all-append (IsBefore x) xs ys r.0 (all-weaker Q (IsBefore x) (λ b k. f x b p.0 k) ys q), rises-append P Q f xs ys p.1 q r.1 s)
 
--- a window of an earlier minute is before one of a later minute of the same day
 earlier : (back n : ℕ) (a b : Window) → Within back 0 n a → Within back n (n + 1) b → IsBefore a b
 earlier back n a b h k =
     let start : a.from + 1440 * b.day_back < b.from + 1440 * a.day_back = omega (arith, h.back_is, h.to_high, k.back_is, k.from_low, ap (λ n. 1440 * n) h.back_is, ap (λ n. 1440 * n) k.back_is) in
@@ -62,7 +61,6 @@ earlier back n a b h k =
 abbrev Later : ℕ → Window → Type 0
 Later n w = w.day_back < n
 
--- a window of an earlier day is before one of a later day
 day_before : (back : ℕ) (a b : Window) → Within back 0 1440 a → Later back b → IsBefore a b
 day_before back a b h k =
     let start : a.from + 1440 * b.day_back < b.from + 1440 * a.day_back = omega (arith, h.back_is, h.to_high, k) in
@@ -135,7 +133,6 @@ module _ {D : Type 0} (jobs : List (Job D)) where
       rises-append (Within (length days) 0 1440) (Later (length days)) (day_before (length days)) (filter reaches ws) (windows_on jobs days)
       (all-filter (Within (length days) 0 1440) reaches ws d.1) (on-later days) (rises-filter reaches ws d.0) (on-rises days)
 
--- by places
 rising_from : (ws : List Window) → Rises ws → IsRising ws
 rising_from [] h i j d lt in_range = absurd (omega arith)
 rising_from (w ∷ ws) h zero zero d lt in_range = absurd (omega arith)

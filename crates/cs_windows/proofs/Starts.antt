@@ -1,4 +1,3 @@
--- The starts of jobs on one day.
 use Rattle.std.proofs.Common.{◌≡◌, ℕ, suc, ◌+◌, ◌-◌, ◌*◌, ◌<◌, ◌≤◌, ◌++◌, ◌&&◌, Bool, true, false, cond, nat_eq, nat_lt, List, [], ◌∷◌, Some, None, refl, sym, ap, ◌∙◌, arith, filter, append_assoc, length, get_or, drop, map, add-one, drop-cons}
 use Rattle.std.specs.List.{cons_option}
 use Rattle.std.proofs.lemmas.Bool.{le-ltb}
@@ -21,7 +20,6 @@ use Rattle.cs_windows.specs.Occupied.{job_of}
 abbrev begun_by : Kind → ℕ → ℕ → ℕ → Job Kind → List Window
 begun_by day back minute number job = filter reaches (starting day back minute number (job ∷ []))
 
--- the first job's window, and those of the others
 starting-cons : (day : Kind) (back minute number : ℕ) (job : Job Kind) (jobs : List (Job Kind)) → filter reaches (starting day back minute number (job ∷ jobs)) ≡ begun_by day back minute number job ++ filter reaches (starting day back minute (number + 1) jobs)
 starting-cons day back minute number job jobs = step (job.begins day minute) (reaches (window number back minute job.lasts)) refl (starting day back minute (number + 1) jobs)
   where
@@ -30,7 +28,6 @@ starting-cons day back minute number job jobs = step (job.begins day minute) (re
     step true true e rest = rw e refl
     step true false e rest = rw e refl
 
--- the next job's window, and those of the others
 next : (day : Kind) (back minute number : ℕ) (os : List Occupied) (o : Occupied) → number < length os → o ≡ get_or os number o
     → filter reaches (starting day back minute number (map job_of (drop number os))) ≡ begun_by day back minute number (job_of o) ++ filter reaches (starting day back minute (number + 1) (map job_of (drop (number + 1) os)))
 next day back minute number os o lt is =
@@ -40,7 +37,6 @@ next day back minute number os o lt is =
     at_drop : (xs : List Occupied) (i : ℕ) → i < length xs → o ≡ get_or xs i o → (f : List Occupied → List Window) → f (drop i xs) ≡ f (o ∷ drop (i + 1) xs)
     at_drop xs i lt is f = ap f (rw (add-one, drop-cons xs i o lt) (ap (λ (x : Occupied). x ∷ drop (suc i) xs) (sym is)))
 
--- the next job of the list, with its starter
 pub kept_at : (day : Kind) (back minute number : ℕ) (os : List Occupied) (o : Occupied) (starters : List Starter) (s : Starter) (all : List Window) → number < length os → o ≡ get_or os number o
     → begun minute (s ∷ []) ≡ begun_by day back minute number (job_of o)
     → begun minute starters ++ filter reaches (starting day back minute number (map job_of (drop number os))) ≡ all
@@ -51,7 +47,6 @@ kept_at day back minute number os o starters s all lt is e h =
     ∙ (append_assoc (begun minute starters) (begun_by day back minute number (job_of o)) rest
     ∙ (ap (λ (ws : List Window). begun minute starters ++ ws) (sym (next day back minute number os o lt is)) ∙ h))
 
--- the next job of the list, left out
 pub left_out_at : (day : Kind) (back minute number : ℕ) (os : List Occupied) (o : Occupied) (starters : List Starter) (all : List Window) → number < length os → o ≡ get_or os number o
     → [] ≡ begun_by day back minute number (job_of o)
     → begun minute starters ++ filter reaches (starting day back minute number (map job_of (drop number os))) ≡ all
@@ -60,14 +55,12 @@ left_out_at day back minute number os o starters all lt is e h =
     let rest = filter reaches (starting day back minute (number + 1) (map job_of (drop (number + 1) os))) in
     ap (λ (ws : List Window). begun minute starters ++ ws) (sym (next day back minute number os o lt is ∙ ap (λ (ws : List Window). ws ++ rest) (sym e))) ∙ h
 
--- the windows of the first starter, and those of the others
 begun-cons : (minute : ℕ) (s : Starter) (starters : List Starter) → begun minute (s ∷ starters) ≡ begun minute (s ∷ []) ++ begun minute starters
 begun-cons minute s starters = filter_map-append (λ (t : Starter). window_at t minute) (s ∷ []) starters
 
 starter_at : {A : Type 0} (f : List Starter → A) (starters : List Starter) (s : Starter) (i : ℕ) → i < length starters → s ≡ get_or starters i s → f (drop i starters) ≡ f (s ∷ drop (i + 1) starters)
 starter_at f starters s i lt is = ap f (rw (add-one, drop-cons starters i s lt) (ap (λ (x : Starter). x ∷ drop (suc i) starters) (sym is)))
 
--- the next starter, kept
 pub near_kept : (minute i : ℕ) (starters : List Starter) (near : List Near) (s : Starter) (n : Near) (all : List Window) → i < length starters → s ≡ get_or starters i s
     → begun_near minute (n ∷ []) ≡ begun minute (s ∷ [])
     → begun_near minute near ++ begun minute (drop i starters) ≡ all → begun_near minute (near ++ n ∷ []) ++ begun minute (drop (i + 1) starters) ≡ all
@@ -78,7 +71,6 @@ near_kept minute i starters near s n all lt is alike h =
     ∙ ap (λ (ws : List Window). begun_near minute near ++ (ws ++ begun minute rest)) alike
     ∙ ap (λ (ws : List Window). begun_near minute near ++ ws) (sym (starter_at (begun minute) starters s i lt is ∙ begun-cons minute s rest)) ∙ h
 
--- the next starter, of which no window begins at the minute, passed over
 pub near_passed : (minute i : ℕ) (starters : List Starter) (near : List Near) (s : Starter) (all : List Window) → i < length starters → s ≡ get_or starters i s
     → begun_near minute [] ≡ begun minute (s ∷ [])
     → begun_near minute near ++ begun minute (drop i starters) ≡ all → begun_near minute near ++ begun minute (drop (i + 1) starters) ≡ all
@@ -97,7 +89,6 @@ none_without_starts s block bits minute none starts low high =
     ∙ ap (λ (b : ℕ). nat_eq b 1) (bit_at-zero (minute - 32 * block)) in
     rw out refl
 
--- and where each is over before the day looked at
 pub none_that_reaches : (s : Starter) (block minute : ℕ) → 32 * (block + 1) + s.reach ≤ 1440 * s.day_back + 1 → minute < 32 * block + 32 → begun minute (s ∷ []) ≡ []
 none_that_reaches s block minute over high =
     let out : nat_lt (1440 * s.day_back) (minute + s.reach) ≡ false = le-ltb _ _ (omega arith) in
@@ -111,7 +102,6 @@ none_that_reaches s block minute over high =
     step true false e = refl
     step false r e = refl
 
--- the minutes of a day that pass a test are those that pass
 pub has-minutes_where : (p : ℕ → Bool) (minute : ℕ) → minute < 1440 → has (minutes_where p) minute ≡ p minute
 unfolding minutes_where
 has-minutes_where p minute lt = has-filter p 0 1440 minute (omega arith) (omega arith)

@@ -1,4 +1,3 @@
--- What it is for a window to hold a minute of a range.
 use Rattle.std.proofs.Common.{◌≡◌, ℕ, ◌+◌, ◌-◌, ◌*◌, ◌<◌, ◌≤◌, true, false, max, min, arith}
 use Rattle.std.proofs.lemmas.Bool.{lt-ltb}
 use Rattle.std.proofs.lemmas.Bool.Decides.{nat_tests}
@@ -6,11 +5,9 @@ use borrow.Author.Tests.{ltb-true}
 use Rattle.cs_windows.specs.declared.window.Window.{Window}
 use Rattle.cs_windows.specs.Window.{touches, Holds}
 
--- the first minute of both ranges is held
 first_held : (lo hi from end day : ℕ) → max (lo + day) from < min (hi + day) end → (x : ℕ) × (lo ≤ x) × (x < hi) × ((from ≤ x + day) × (x + day < end))
 first_held lo hi from end day lt = (max (lo + day) from - day, omega arith, omega arith, (omega arith, omega arith))
 
--- a minute that both hold is in both ranges
 between : (lo hi from end day x : ℕ) → lo ≤ x → x < hi → from ≤ x + day → x + day < end → max (lo + day) from < min (hi + day) end
 between lo hi from end day x a b c d = omega arith
 

@@ -1,4 +1,3 @@
--- Trees over minutes, their leaves and the entries at a minute.
 use Rattle.std.proofs.Common.{◌≡◌, ℕ, ◌<◌, ◌≤◌, ◌++◌, Bool, true, false, not, ◌||◌, ◌&&◌, cond, List, [], ◌∷◌, Contains, refl, sym, ap, ◌∙◌, arith, inl, inr, ⊎_elim, ◌↔◌}
 use Rattle.std.specs.List.{list_all}
 use Rattle.std.proofs.lemmas.List.Folds.{list_all-append}
@@ -20,7 +19,6 @@ true_both : (a b : Bool) → a ≡ true → b ≡ true → (a && b) ≡ true
 true_both true b e f = f
 true_both false b e f = cc
 
--- all of two lists
 all_both : (p : LeafOver → Bool) (xs ys : List LeafOver) → list_all p xs ≡ true → list_all p ys ≡ true → list_all p (xs ++ ys) ≡ true
 all_both p xs ys h k = list_all-append p xs ys ∙ true_both (list_all p xs) (list_all p ys) h k
 
@@ -39,14 +37,12 @@ keeps-untouched w (split at before after) lo hi r h =
     (keeps-untouched w before lo at r.2 (touches-part w lo hi lo at (omega arith) (omega arith) h))
     (keeps-untouched w after at hi r.3 (touches-part w lo hi at hi (omega arith) (omega arith) h))
 
--- the leaves of each half are leaves of the whole
 pub part-before : (whole : List LeafOver) (xs ys : List LeafOver) → ((x : LeafOver) → Contains (xs ++ ys) x → Contains whole x) → (x : LeafOver) → Contains xs x → Contains whole x
 part-before whole xs ys h x k = h x (Contains-append_left xs ys x k)
 
 pub part-after : (whole : List LeafOver) (xs ys : List LeafOver) → ((x : LeafOver) → Contains (xs ++ ys) x → Contains whole x) → (x : LeafOver) → Contains ys x → Contains whole x
 part-after whole xs ys h x k = h x (Contains-append_right xs ys x k)
 
--- the window is listed at each minute of the range that it holds
 abbrev ListedIn : Window → Tree → ℕ → ℕ → Type 0
 ListedIn w tree lo hi = (minute : ℕ) → lo ≤ minute → minute < hi → Holds w minute → lists (entries_at tree minute) w ≡ true
 

@@ -1,13 +1,10 @@
--- The names of windows in a leaf.
 use Rattle.std.specs.Prelude.{Bool, ◌&&◌, ◌==◌, List}
 use Rattle.std.specs.List.{list_any}
 use Rattle.cs_windows.specs.declared.window.Window.{Window}
 use Rattle.cs_windows.specs.declared.tree.Entry.{Entry}
 
--- whether the entry is the window's name
 abbrev pub names : Entry → Window → Bool
 names e w = (e.job == w.job) && (e.day_back == w.day_back) && (e.from == w.from)
 
--- whether the window's name is listed
 abbrev pub lists : List Entry → Window → Bool
 lists entries w = list_any (λ e. names e w) entries

@@ -1,4 +1,3 @@
--- What a job occupies, as its windows see it.
 use Rattle.std.specs.Prelude.{◌==◌}
 use Rattle.cs_civil.specs.Calendar.{Kind}
 use Rattle.cs_schedule.specs.Times.{is_due}

@@ -17,7 +17,6 @@ window_at s minute =
     if has s.starts minute && reaches (window s.job s.day_back minute s.reach)
     then Some (window s.job s.day_back minute s.reach) else None
 
--- the windows of several jobs that begin at this minute and reach the day looked at
 abbrev pub begun : ℕ → List Starter → List Window
 begun minute starters = filter_map (λ s. window_at s minute) starters
 
@@ -26,7 +25,7 @@ abbrev pub BeginOn : List Starter → Kind → ℕ → ℕ → List (Job Kind) �
 BeginOn starters day back number jobs = (minute : ℕ) → minute < MINUTES_OF_DAY
     → begun minute starters ≡ filter reaches (starting day back minute number jobs)
 
--- the same of a block of minutes, to which the minute belongs
+-- the same in a block of minutes, to which the minute belongs
 abbrev pub window_near : Near → ℕ → Option Window
 window_near n minute =
     if has_bit n.starts (minute % MINUTES_OF_BLOCK)
@@ -36,7 +35,6 @@ window_near n minute =
 abbrev pub begun_near : ℕ → List Near → List Window
 begun_near minute near = filter_map (λ n. window_near n minute) near
 
--- the windows that begin at the minutes [from, to)
 abbrev pub begun_between : List Near → ℕ → ℕ → List Window
 begun_between near from to =
     flat_map (λ minute. begun_near minute near) (range_with_len from (to - from))

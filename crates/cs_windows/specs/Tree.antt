@@ -1,4 +1,3 @@
--- Trees over the minutes of a day.
 use Rattle.std.specs.Prelude.{ℕ, ◌<◌, Bool, ◌||◌, not, List, [], ◌∷◌, ◌++◌, nat_lt, if◌then◌else◌, Contains, IsTrue}
 use Rattle.std.specs.List.{list_all}
 use Rattle.cs_windows.specs.declared.window.Window.{Window}
@@ -29,7 +28,6 @@ entries_at (leaf entries) minute = entries
 entries_at (split at before after) minute =
     if nat_lt minute at then entries_at before minute else entries_at after minute
 
--- the entries of a leaf, and its range [lo, hi)
 pub record LeafOver : Type 0 where
   pub lo : ℕ
   pub hi : ℕ
@@ -38,12 +36,11 @@ pub record LeafOver : Type 0 where
 abbrev pub leaf_over : ℕ → ℕ → List Entry → LeafOver
 leaf_over lo hi entries = record { lo = lo; hi = hi; entries = entries }
 
--- the leaves of a tree over [lo, hi), in order
 abbrev pub leaves : Tree → ℕ → ℕ → List LeafOver
 leaves (leaf entries) lo hi = leaf_over lo hi entries ∷ []
 leaves (split at before after) lo hi = leaves before lo at ++ leaves after at hi
 
--- whether the leaf lists the window, if the window touches its range
+-- if the window touches the leaf's range, the leaf lists it
 abbrev pub keeps_to : LeafOver → Window → Bool
 keeps_to l w = not (touches w l.lo l.hi) || lists l.entries w
 

@@ -5,12 +5,13 @@ use Rattle.cs_windows.specs.declared.window.Window.{Window}
 use Rattle.cs_civil.specs.declared.minute.TheConstants.{MINUTES_OF_DAY}
 use Rattle.cs_windows.specs.Window.{window, reaches}
 
--- a job as its windows see it: whether one begins at a minute of such a day, and its minutes
+-- a job as its windows see it: whether one begins at a minute of such a day, and how many minutes
+-- each lasts
 pub record Job (D : Type 0) : Type 0 where
   pub begins : D → ℕ → Bool
   pub lasts : ℕ
 
--- the windows that begin at one minute of a day, by job, where the list's first has this number
+-- the windows that begin at one minute of a day, by job; the first of the list has this number
 abbrev pub starting : {D : Type 0} → D → ℕ → ℕ → ℕ → List (Job D) → List Window
 starting day back minute number [] = []
 starting day back minute number (job ∷ jobs) =
@@ -18,7 +19,6 @@ starting day back minute number (job ∷ jobs) =
     then window number back minute job.lasts ∷ starting day back minute (number + 1) jobs
     else starting day back minute (number + 1) jobs
 
--- the minutes of a day in order
 unfoldable pub day_minutes : List ℕ
 day_minutes = range_with_len 0 MINUTES_OF_DAY
 

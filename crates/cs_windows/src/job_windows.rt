@@ -9,15 +9,14 @@ use cs_schedule::{MinuteSet, Schedule};
 pub enum Occupied<'a> {
     /// A cron job's begin at each minute at which the schedule is due (`crontab(5)`).
     Cron { schedule: &'a Schedule, reach: u16 },
-    /// An anacron job's catch-up window begins at minute `from` of each day (`anacron(8)`); there is
-    /// none if `from` is 1,440 or more.
+    /// An anacron job's catch-up window begins at minute `from` of each day (`anacron(8)`). There
+    /// is none if `from` is 1,440 or more.
     CatchUp { from: u16, reach: u16 },
 }
 
 impl Occupied<'_> {
     ghost use Rattle.cs_windows.specs.Occupied.{job_of};
 
-    /// The minutes that a window lasts.
     pub(crate) fn reach(&self) -> u16
         ensures { result ≡ (job_of self.now).lasts }
     {
@@ -27,7 +26,6 @@ impl Occupied<'_> {
         }
     }
 
-    /// The minutes of the day at which a window begins.
     pub(crate) fn starts_on(&self, day: DayKind) -> MinuteSet
         ensures { (minute : ℕ) → minute < MINUTES_OF_DAY
             → has result minute ≡ (job_of self.now).begins day minute }
@@ -39,7 +37,7 @@ impl Occupied<'_> {
     }
 }
 
-/// The set of one minute, or no minute if it is 1,440 or more.
+/// No minute if `from` is 1,440 or more.
 fn minutes_at(from: u16) -> MinuteSet
     ensures { (minute : ℕ) → minute < MINUTES_OF_DAY → has result minute ≡ (minute == from) }
 {

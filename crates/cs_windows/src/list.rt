@@ -14,10 +14,8 @@ use std::alloc::{AllocError, Global};
 /// The most jobs that windows can name.
 pub const MOST_OCCUPIED: usize = 65_536;
 
-/// The blocks of `MINUTES_OF_BLOCK` in a day's minutes.
 const BLOCKS_OF_DAY: u16 = MINUTES_OF_DAY / MINUTES_OF_BLOCK;
 
-/// The starts of a job on a day, if a window of it may reach the day `day_back` days later.
 fn starter_on(job: u16, own: &Occupied<'_>, day: DayKind, day_back: u8) -> Option<Starter>
     ensures kept { IfSome result (λ starter.
         BeginOn (starter ∷ []) day day_back job (job_of own.now ∷ [])) }
@@ -35,7 +33,6 @@ fn starter_on(job: u16, own: &Occupied<'_>, day: DayKind, day_back: u8) -> Optio
     })
 }
 
-/// The starts of each job whose windows may begin on this day and reach the day `day_back` later.
 fn starters_on(
     alloc: Global,
     occupied: &[Occupied<'_>],
@@ -55,7 +52,7 @@ fn starters_on(
     Ok(starters)
 }
 
-/// Keeps only the starts, in a block of minutes, of the jobs whose windows may begin there.
+/// Keeps only the jobs whose windows may begin in a block of minutes, with their starts there.
 fn keep_near(near: &mut Vec<Near>, starters: &[Starter], block: u16) -> Result<(), AllocError>
     ensures { OnOk result (BeginAlike block near.new.items starters.now) }
 {
@@ -68,7 +65,6 @@ fn keep_near(near: &mut Vec<Near>, starters: &[Starter], block: u16) -> Result<(
     Ok(())
 }
 
-/// Adds the windows that begin at one minute and reach the day looked at.
 fn add_begun(windows: &mut Vec<Window>, near: &[Near], minute: u16) -> Result<(), AllocError>
     ensures { OnOk result (windows.new.items ≡ windows.old.items ++ begun_near minute near.now) }
 {
@@ -80,7 +76,6 @@ fn add_begun(windows: &mut Vec<Window>, near: &[Near], minute: u16) -> Result<()
     Ok(())
 }
 
-/// Adds the windows that begin at the minutes `[from, to)` and reach the day looked at.
 fn add_minutes(
     windows: &mut Vec<Window>,
     near: &[Near],
@@ -97,7 +92,6 @@ fn add_minutes(
     Ok(())
 }
 
-/// Adds the windows that begin on a day and reach the day `day_back` days later.
 fn add_day(
     alloc: Global,
     windows: &mut Vec<Window>,
@@ -123,8 +117,8 @@ fn add_day(
 /// Returns the windows that begin on successive days, given eldest first, and reach the last of
 /// them, by start, then job.
 ///
-/// A window from days before is listed while it reaches the last day: midnight ends none. A window
-/// of reach 0 holds no minute and is never listed. Four days are enough for reaches up to 4,320
+/// A window of an earlier day is listed if it reaches the last day: midnight ends none. A window of
+/// reach 0 holds no minute and is never listed. Four days are enough for reaches up to 4,320
 /// minutes; windows of a longer reach that began before the first given day are missing. The only
 /// error is out of memory.
 pub fn windows_on(

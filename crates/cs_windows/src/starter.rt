@@ -25,7 +25,6 @@ impl Starter {
     ghost use Rattle.std.specs.Prelude.{[], ◌∷◌, IfNone, IfSome};
     ghost use Rattle.cs_windows.specs.Starter.{BeginAlike};
 
-    /// The starts in this block, if a window may begin there and reach the day looked at.
     pub(crate) fn near(&self, block: u16) -> Option<Near>
         ensures kept { IfSome result (λ near. BeginAlike block (near ∷ []) (self.now ∷ [])) }
         ensures left_out { IfNone result (BeginAlike block [] (self.now ∷ [])) }
@@ -48,7 +47,6 @@ impl Near {
     ghost use Rattle.std.specs.Prelude.{◌≡◌};
     ghost use Rattle.cs_windows.specs.Starter.{window_near};
 
-    /// The window that begins at this minute of the block, if it reaches the day looked at.
     pub(crate) fn window_at(&self, minute: u16) -> Option<Window>
         ensures { result ≡ window_near self.now minute }
     {

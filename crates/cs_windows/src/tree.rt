@@ -1,5 +1,3 @@
-//! Trees over the minutes of a day, whose leaves list the windows that hold minutes of their range.
-
 ghost use Rattle.std.specs.Prelude.{◌≡◌, ◌<◌, ◌≤◌, ◌↔◌, IsTrue, Contains};
 ghost use Rattle.std.specs.List.{list_all};
 ghost use Rattle.cs_windows.specs.Entries.{lists};
@@ -10,9 +8,9 @@ use cs_civil::{MINUTES_OF_DAY, Sequence};
 /// The name of a window in a leaf.
 #[derive(Clone, Copy, PartialEq, Eq, Hash)]
 pub struct Entry {
-    /// Its job.
+    /// The window's job.
     pub job: u16,
-    /// How many days before the day looked at it begins.
+    /// How many days before the day looked at the window begins.
     pub day_back: u8,
     /// The minute of that day at which it begins.
     pub from: u16,
@@ -63,7 +61,7 @@ pub fn lists(entries: &[Entry], window: &Window) -> bool
     entries.iter().any(|entry| entry.names(window))
 }
 
-/// Like `lists`, with a look at the entry at this place first.
+/// The entry at this place is looked at first.
 fn lists_at(entries: &[Entry], window: &Window, place: usize) -> bool
     ensures { result ≡ lists entries.now window.now }
 {
@@ -85,7 +83,6 @@ impl MinuteTree {
         self.is_inside(0, MINUTES_OF_DAY)
     }
 
-    /// Like `splits_inside`, for a tree over `[lo, hi)`.
     fn is_inside(&self, lo: u16, hi: u16) -> bool
         ensures { IsTrue result ↔ SplitsInside (tree_of self.now) lo hi }
     {
@@ -133,7 +130,7 @@ impl MinuteTree {
     }
 
     /// Whether each leaf of a tree over `[lo, hi)` lists the window if it touches the leaf's range.
-    /// `inside` means that each split is inside its range, so that a window touches no leaf unless
+    /// `inside` says that each split is inside its range, so that a window touches no leaf unless
     /// it touches the whole range. A leaf looks at its entry at `place` first.
     fn keeps(&self, window: &Window, place: usize, lo: u16, hi: u16, inside: bool) -> bool
         requires { IsTrue inside → SplitsInside (tree_of self.now) lo hi }
@@ -154,8 +151,8 @@ impl MinuteTree {
         }
     }
 
-    /// Whether each leaf lists every given window that touches its range. `inside` as in `keeps`. A
-    /// leaf of the whole day whose entries are in the order of the windows is gone through once.
+    /// `inside` is as in `keeps`. A leaf of the whole day whose entries are in the order of the
+    /// windows is gone through once.
     fn keeps_all(&self, windows: &[Window], inside: bool) -> bool
         requires { IsTrue inside → SplitsInside (tree_of self.now) 0 MINUTES_OF_DAY }
         ensures { result ≡ covers (tree_of self.now) windows.now }
@@ -170,9 +167,9 @@ impl MinuteTree {
 
     /// Checks whether each leaf lists every given window that touches its range.
     ///
-    /// If each split is inside its range: whether the leaf of each minute lists every given window
-    /// that holds the minute. The halves of any other split are over `[lo, at)` and `[at, hi)` too,
-    /// and no window touches an empty range.
+    /// If each split is inside its range, this is whether the leaf of each minute lists every given
+    /// window that holds the minute. The halves of any other split are over `[lo, at)` and `[at,
+    /// hi)` too, and no window touches an empty range.
     pub fn covers(&self, windows: &[Window]) -> bool
         ensures value { result ≡ covers (tree_of self.now) windows.now }
 

@@ -6,7 +6,7 @@ use cs_civil::MINUTES_OF_DAY;
 /// The minutes in which one run of a job may go on: `[from, from + reach)` of the day `day_back`
 /// days before the day looked at. It may hold minutes of several days.
 ///
-/// It takes eight bytes: a table of 256 lines may have a million of them.
+/// It takes eight bytes: a stretch of a table of 256 lines may have a million of them.
 #[derive(Clone, Copy, PartialEq, Eq, Hash)]
 pub struct Window {
     /// The job's index in the list that the window was made from.
@@ -19,7 +19,6 @@ pub struct Window {
     pub reach: u16,
 }
 
-/// Whether the window holds a minute of the day looked at, or of one after it.
 pub(crate) fn reaches(window: &Window) -> bool
     ensures { result ≡ reaches window.now }
 {
@@ -38,21 +37,18 @@ pub fn touches(window: &Window, lo: u16, hi: u16) -> bool
     first < (u32::from(hi) + day).min(end(window))
 }
 
-/// The first minute of the day looked at, counted from the start of the day `day_back` days before.
 pub(crate) fn first_minute(day_back: u8) -> u32
     ensures { result ≡ MINUTES_OF_DAY * day_back }
 {
     u32::from(MINUTES_OF_DAY) * u32::from(day_back)
 }
 
-/// The minute after the window's last, counted from the start of the day on which it begins.
 fn end(window: &Window) -> u32
     ensures { result ≡ window.now.from + window.now.reach }
 {
     u32::from(window.from) + u32::from(window.reach)
 }
 
-/// Whether a window of this reach that begins `day_back` days before may reach the day looked at.
 pub(crate) fn may_reach(day_back: u8, reach: u16) -> bool
     ensures { IsTrue result
         ↔ ((0 < reach) × (MINUTES_OF_DAY * day_back + 1 < MINUTES_OF_DAY + reach)) }

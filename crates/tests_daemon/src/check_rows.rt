@@ -1,11 +1,12 @@
-//! What the checker by one thread refuses. The program checks by several threads, and the cases of
-//! `check` show what that accepts and refuses; the other rows here are of plans that this one accepts.
+//! Tests of what the checker by one thread refuses. The program checks by several threads, and the
+//! cases of `check` show what that accepts and refuses; the other rows use plans that this one
+//! accepts.
 
 use crate::plans::{TIGHT, answer};
 use cs_check::CheckError;
 use cs_theorem::CheckFault;
 
-/// Whether two runs meet where one may run: at 1970-01-03 01:00, on the first day that is looked at.
+/// Whether two runs meet where one may run: at 1970-01-03 01:00, on the first day that is checked.
 fn is_over_at_one(fault: &CheckFault) -> bool {
     match fault {
         CheckFault::OverCapacity { at, load } => (at.number(), *load) == (2_940, 2),

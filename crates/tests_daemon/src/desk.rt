@@ -1,5 +1,5 @@
-//! A keep and a seat in one hand, for tests that read what they leave. Its calls say little, so that a
-//! test is proved call by call with little in hand.
+//! A keep and a seat in one hand, for tests that read what they leave. Its calls promise little, so
+//! that a test is cheap to prove call by call.
 ghost use Rattle.std.specs.Prelude.{◌≡◌, ◌<◌, IfSome};
 ghost use Rattle.cs_check.specs.Checked.{plan_in};
 
@@ -12,7 +12,6 @@ use std::alloc::Global;
 use std::process::Abort;
 use std::sync::ledger::{Blank, Ledger};
 
-/// A keep, and the seat through which it is used.
 #[derive(Drop)]
 pub(crate) struct Desk<L: Ledger> {
     pub(crate) keep: Keep<L>,
@@ -43,7 +42,7 @@ impl<L: Ledger> Desk<L> {
         }
     }
 
-    /// The same of a plan that is checked here.
+    /// The same for a plan that is checked here.
     pub(crate) fn of<R: Abort>(
         rt: &R,
         alloc: Global,
@@ -80,7 +79,6 @@ impl<L: Ledger> Desk<L> {
         self.keep.total()
     }
 
-    /// How long the journal is.
     pub(crate) fn length(&self) -> usize {
         self.keep.journal().len()
     }
@@ -89,17 +87,14 @@ impl<L: Ledger> Desk<L> {
         (self.total(), self.length(), self.seat.share())
     }
 
-    /// The present minute.
     pub(crate) fn now(&self) -> Minute {
         self.keep.core().now()
     }
 
-    /// The counts, and the present minute.
     pub(crate) fn place(&self) -> (Counts, u64) {
         (self.counts(), self.now().number())
     }
 
-    /// How many runs run.
     pub(crate) fn running(&self) -> usize {
         self.keep.core().running().len()
     }
@@ -110,7 +105,7 @@ impl<L: Ledger> Desk<L> {
         (base.now().number(), base.is_up())
     }
 
-    /// Whether the journal has these events, and no others, behind so many.
+    /// Whether the journal has just these events from this index on.
     pub(crate) fn ends_with(&self, from: usize, events: &[Event]) -> bool {
         let journal = self.keep.journal();
         if from > journal.len() || journal.len() - from != events.len() {
@@ -122,12 +117,10 @@ impl<L: Ledger> Desk<L> {
             .all(|(entry, event)| entry.event() == *event)
     }
 
-    /// Gives one part to a second seat.
     pub(crate) fn split(&mut self) -> Option<Seat<L>> {
         self.seat.split()
     }
 
-    /// What is left of the keep.
     pub(crate) fn close(self, checked: Checked) -> Kept
         requires { plan_in checked ≡ self.keep.core.plan }
     {

@@ -1,4 +1,4 @@
-//! Devices that are made up, and what they tell each other.
+//! Made-up devices, and what they tell each other.
 ghost use Rattle.std.specs.Prelude.{◌≡◌};
 
 use cs_civil::{Bytes, Day, Minute};
@@ -9,10 +9,9 @@ use std::sync::atomic::{AtomicU64, Ordering};
 use std::time::Duration;
 use std::{io, thread, time};
 
-/// What the devices of one daemon have seen.
 #[derive(Drop)]
 pub(crate) struct Seen {
-    /// The last minute that the clock told.
+    /// The last minute that the clock gave.
     pub(crate) minute: AtomicU64,
     /// How many runs of other jobs than the first have passed the gate's second point.
     pub(crate) others: AtomicU64,
@@ -33,7 +32,7 @@ impl Seen {
     }
 }
 
-/// Tells the minutes in turn, the last one again until so many writes of stamps were tried, and
+/// Gives the minutes in turn, the last one again until so many writes of stamps were tried, and
 /// then stops.
 #[derive(Drop)]
 pub(crate) struct ListClock<'a, R> {
@@ -47,7 +46,6 @@ pub(crate) struct ListClock<'a, R> {
 }
 
 impl<'a, R: time::Clock> ListClock<'a, R> {
-    /// The next answer.
     fn next(&mut self) -> Tick
         ensures { self.new.told ≡ self.old.told }
     {
@@ -92,15 +90,14 @@ impl<'a, R: time::Clock> Clock for ListClock<'a, R> {
     }
 }
 
-/// The name of the run that a signal ends.
 const KILLED: &str = "job cron.daily at 2024-01-01 01:00";
 
-/// Answers that each command has exited with 3, but for one that isn't started, and for the run of one
-/// name, which signal 9 ends.
+/// Answers that each command exited with 3, except one that isn't started, and the run of one name,
+/// which signal 9 ends.
 #[derive(Drop)]
 pub(crate) struct FailingRunner {
     pub(crate) runs: u64,
-    /// Which command it is, counted from 1; 0 where there is none.
+    /// Which command isn't started, counted from 1; 0 for none.
     pub(crate) fails: u64,
     pub(crate) failures: Failures,
 }
@@ -130,12 +127,12 @@ impl Runner for FailingRunner {
     }
 }
 
-/// Keeps what is written to it, but for one write that fails.
+/// Keeps what is written to it, except for one write that fails.
 #[derive(Drop)]
 pub(crate) struct FailingLog {
     pub(crate) text: Vec<u8>,
     pub(crate) writes: u64,
-    /// Which write it is, counted from 1; 0 where there is none.
+    /// Which write fails, counted from 1; 0 for none.
     pub(crate) fails: u64,
 }
 
@@ -157,9 +154,8 @@ impl io::Write for FailingLog {
 /// What runs of the first job are held for, before they begin.
 #[derive(Clone, Copy)]
 pub(crate) enum Hold {
-    /// Nothing.
     Never,
-    /// Until the clock has told this minute.
+    /// Until the clock has given this minute.
     Until(u64),
     /// Until a run of another job has ended.
     ForOthers,
@@ -175,7 +171,6 @@ pub(crate) struct HoldingGate<'a, R> {
 }
 
 impl<'a, R: time::Clock> HoldingGate<'a, R> {
-    /// Whether what the runs are held for has come.
     fn is_awaited(&self) -> bool {
         match self.hold {
             Hold::Never => true,
@@ -211,7 +206,7 @@ impl<'a, R: time::Clock> Gate for HoldingGate<'a, R> {
     }
 }
 
-/// Holds no stamp at first. The first writes fail, so many of them.
+/// Holds no stamp at first. So many writes fail, the first ones.
 #[derive(Drop)]
 pub(crate) struct FailingStore<'a> {
     pub(crate) seen: &'a Seen,

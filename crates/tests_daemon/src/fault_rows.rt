@@ -17,7 +17,7 @@ fn outage(rt: HostRuntime) {
     assert!(&rt; played.count("outage") == 1);
 }
 
-/// A clock that goes back ends the daemon, and its run ends.
+/// A clock that goes back ends the daemon, after its run has ended.
 #[test]
 fn clock_goes_back(rt: HostRuntime) {
     let alloc: Global = rt.alloc();
@@ -36,7 +36,7 @@ fn too_early(rt: HostRuntime) {
     assert!(&rt; played.end.keep.is_none() && played.end.shares.as_slice() == [0, 0].as_slice());
 }
 
-/// So many minutes from 00:59 on, and then none that can be read.
+/// So many minutes from 00:59 on, and then one that can't be read.
 fn minutes_before(alloc: Global, count: u16) -> Result<Vec<u64>, AllocError> {
     let mut minutes = Vec::new(alloc);
     for minute in MIDNIGHT + 59..MIDNIGHT + 59 + u64::from(count) {
@@ -46,8 +46,9 @@ fn minutes_before(alloc: Global, count: u16) -> Result<Vec<u64>, AllocError> {
     Ok(minutes)
 }
 
-/// A clock that can't be read ends the daemon at its first answer, before a keep is there, and at
-/// each later one of two hours: a coming up and minutes, two events for each hour, a going down.
+/// A clock that can't be read ends the daemon: at its first answer, before there is a keep, and at
+/// each later one of two hours. The events are a coming up, minutes, two for each hour, and a going
+/// down.
 #[test]
 fn clock_fails_at_each_answer(rt: HostRuntime) {
     let alloc: Global = rt.alloc();
@@ -65,7 +66,7 @@ fn clock_fails_at_each_answer(rt: HostRuntime) {
     }
 }
 
-/// Each run of a day in turn can't be started: it is started and ended in the journal all the same.
+/// Each run of a day in turn can't be started: the journal starts and ends it all the same.
 #[test]
 fn each_run_is_not_started(rt: HostRuntime) {
     let alloc: Global = rt.alloc();
@@ -86,7 +87,7 @@ fn each_run_is_not_started(rt: HostRuntime) {
 }
 
 /// Each line of a day's log in turn can't be written: it is counted, and nothing else is lost. The
-/// worker may be slower than this clock: then overruns are told too.
+/// worker may be slower than this clock; then overruns are logged too.
 #[test]
 fn each_line_is_not_written(rt: HostRuntime) {
     let alloc: Global = rt.alloc();
@@ -104,7 +105,7 @@ fn each_line_is_not_written(rt: HostRuntime) {
     }
 }
 
-/// A run that can't be started is started and ended in the journal, and the log names it.
+/// The journal starts and ends a run that can't be started, and the log names it.
 #[test]
 fn run_that_is_not_started(rt: HostRuntime) {
     let alloc: Global = rt.alloc();
@@ -136,7 +137,6 @@ fn overrun(rt: HostRuntime) {
     assert!(&rt; played.count("overrun line 1 due 2024-01-01 01:00\n") == 1);
 }
 
-/// Whether the keep has a stamp.
 fn is_stamped(played: &Played) -> bool {
     match played.end.keep {
         Some(keep) => keep.is_stamped,
@@ -144,7 +144,7 @@ fn is_stamped(played: &Played) -> bool {
     }
 }
 
-/// A stamp that can't be written twice is tried in each tick, logged each time, and then written. A
+/// A stamp whose first two writes fail is tried in each tick, logged each time, and then written. A
 /// signal ends the job's run.
 #[test]
 fn stamp_not_written(rt: HostRuntime) {

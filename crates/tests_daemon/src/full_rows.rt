@@ -6,14 +6,13 @@ use cs_keep::{MAX_ENTRIES, TickFault};
 use std::process::Abort;
 use std::sync::ledger::Ledger;
 
-/// The first minute, the last that there is room for, and the one behind it.
+/// The first minute, the last that there is room for, and the one after it.
 const FIRST: u64 = 28_401_180;
 
 const LAST: u64 = 32_595_483;
 
 const NEXT: u64 = 32_595_484;
 
-/// Makes minutes until one is refused, and answers the refusal.
 fn fill<L: Ledger>(desk: &mut Desk<L>) -> Option<Refusal> {
     for minute in FIRST..=NEXT {
         let answer = desk.step(Event::Minute(minute));
@@ -24,7 +23,6 @@ fn fill<L: Ledger>(desk: &mut Desk<L>) -> Option<Refusal> {
     None
 }
 
-/// Whether a tick to the next minute finds the journal full.
 fn is_full_for_a_tick<L: Ledger>(desk: &mut Desk<L>) -> bool {
     let Some(next) = Minute::new(NEXT) else {
         return false;
@@ -33,7 +31,6 @@ fn is_full_for_a_tick<L: Ledger>(desk: &mut Desk<L>) -> bool {
     desk.tick(last, next) == Err(TickFault::HistoryFull)
 }
 
-/// Whether the journal is full, and the last minute is the present one.
 fn is_full<L: Ledger>(desk: &Desk<L>) -> bool {
     desk.place() == ((4_194_304, MAX_ENTRIES, 4_194_304), LAST)
 }

@@ -12,7 +12,6 @@ use std::marker::Brand;
 use std::process::Abort;
 use std::sync::ledger::{Blank, Ledger};
 
-/// What is done at a desk.
 #[derive(Clone, Copy)]
 enum Row {
     Full,
@@ -61,21 +60,21 @@ fn go<R: Abort>(rt: &R, alloc: Global, row: Row) {
     open_and_go::<Brand, R>(rt, alloc, Blank::new(1), row);
 }
 
-/// 4,194,304 minutes are accepted, the next is refused and changes nothing, by a tick too; behind a
+/// 4,194,304 minutes are accepted; the next is refused and changes nothing, by a tick too. After a
 /// cut it is accepted.
 #[test]
 fn full_journal(rt: HostRuntime) {
     go(&rt, rt.alloc(), Row::Full);
 }
 
-/// While a job is pending or its run goes on the journal isn't cut; when the run has ended it is.
+/// While a job is pending or its run goes on, the journal isn't cut; when the run has ended, it is.
 #[test]
 fn no_cut_while_a_run_goes_on(rt: HostRuntime) {
     go(&rt, rt.alloc(), Row::Run);
 }
 
-/// Of two jobs that are due at once one waits; when the other has ended it gets the lock in the next
-/// tick, before the minute comes. A clock that goes back changes nothing.
+/// Of two jobs that are due at once one waits; when the other has ended, the next tick gives it the
+/// lock before the minute comes. A clock that goes back changes nothing.
 #[test]
 fn waiting(rt: HostRuntime) {
     go(&rt, rt.alloc(), Row::Wait);

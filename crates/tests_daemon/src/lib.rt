@@ -1,5 +1,4 @@
-//! Rows of the daemon, over devices that are made up, and of what stands below it: of the keep, by its
-//! steps, ticks and threads, of the checker, and of calls for which memory runs out.
+//! Tests the daemon over made-up devices, the keep, the checker, and calls that run out of memory.
 #![tactic(auto)]
 
 #[cfg(test)]

@@ -15,7 +15,6 @@ use cs_plan::Plan;
 use std::alloc::Global;
 use std::process::Abort;
 
-/// The texts of a plan and of its certificate.
 pub(crate) struct Texts {
     pub(crate) crontab: &'static str,
     pub(crate) anacrontab: &'static str,
@@ -32,7 +31,7 @@ pub(crate) const EMPTY: Texts = Texts {
         \"pairs\":[{\"of\":[0,0],\"tree\":{\"list\":[]}}],\"reach\":[],\"version\":1}",
 };
 
-/// A certificate of one job in each hour.
+/// A certificate for one job in each hour.
 const EACH_HOUR: &str = "{\"classes\":[{\"backlog\":[],\"due\":[[0,[0,60,120,180,240,300,360,420,\
     480,540,600,660,720,780,840,900,960,1020,1080,1140,1200,1260,1320,1380]]]}],\
     \"kinds\":{\"class\":0},\"pairs\":[{\"of\":[0,0],\"tree\":{\"list\":[[0,0,0],[0,0,60],\
@@ -57,14 +56,14 @@ pub(crate) const SHORT: Texts = Texts {
     certificate: EACH_HOUR,
 };
 
-/// A table of two jobs at 01:00, and its certificate where none waits.
+/// Two jobs at 01:00, and a certificate for them where none waits.
 const AT_ONE: &str = "0 1 * * * /bin/a\n0 1 * * * /bin/b\n";
 
 const AT_ONE_EACH: &str = "{\"classes\":[{\"backlog\":[],\"due\":[[0,[60]],[1,[60]]]}],\
     \"kinds\":{\"class\":0},\"pairs\":[{\"of\":[0,0],\
     \"tree\":{\"list\":[[0,0,60],[1,0,60]]}}],\"reach\":[],\"version\":1}";
 
-/// Declarations of two jobs, of which one may run at a time.
+/// Declarations of two jobs, one of which may run at a time.
 const ONE_PLACE: &str =
     "{\"capacity\":1,\"cron\":[{\"line\":1,\"max\":10},{\"line\":2,\"max\":10}]}";
 
@@ -96,7 +95,7 @@ pub(crate) const IN_TURN: Texts = Texts {
         \"tree\":{\"list\":[[0,0,60],[1,0,80]]}}],\"reach\":[],\"version\":1}",
 };
 
-/// Two jobs that wait for each other at 01:00.
+/// Two jobs at 01:00 that wait for one lock.
 pub(crate) const WAITING: Texts = Texts {
     crontab: AT_ONE,
     anacrontab: "",
@@ -118,22 +117,18 @@ pub(crate) const CATCHING_UP: Texts = Texts {
         \"reach\":[],\"version\":1}",
 };
 
-/// The crontab of a text.
 pub(crate) fn crontab(rt: &impl Abort, alloc: Global, text: &str) -> Crontab {
     read_crontab(alloc, text.as_bytes()).expect(rt, "a crontab")
 }
 
-/// The anacrontab of a text.
 fn anacrontab(rt: &impl Abort, alloc: Global, text: &str) -> Anacrontab {
     read_anacrontab(alloc, text.as_bytes()).expect(rt, "an anacrontab")
 }
 
-/// The declarations of a text.
 fn declarations(rt: &impl Abort, alloc: Global, text: &str) -> Declarations {
     read_declarations(alloc, text.as_bytes()).expect(rt, "declarations")
 }
 
-/// The plan of two tables and declarations.
 fn joined(
     rt: &impl Abort,
     alloc: Global,
@@ -144,7 +139,6 @@ fn joined(
     join(alloc, crontab, anacrontab, declarations).expect(rt, "a plan")
 }
 
-/// The plan.
 pub(crate) fn plan(rt: &impl Abort, alloc: Global, texts: &Texts) -> Plan {
     let crontab = crontab(rt, alloc, texts.crontab);
     let anacrontab = anacrontab(rt, alloc, texts.anacrontab);
@@ -152,24 +146,21 @@ pub(crate) fn plan(rt: &impl Abort, alloc: Global, texts: &Texts) -> Plan {
     joined(rt, alloc, crontab, anacrontab, declarations)
 }
 
-/// The certificate of a text.
 fn certificate(rt: &impl Abort, alloc: Global, text: &str) -> Certificate {
     read_certificate(alloc, text.as_bytes()).expect(rt, "a certificate")
 }
 
-/// What the checker answers to the plan and its certificate.
 pub(crate) fn answer(rt: &impl Abort, alloc: Global, texts: &Texts) -> Result<Checked, CheckError> {
     let plan = plan(rt, alloc, texts);
     let certificate = certificate(rt, alloc, texts.certificate);
     check(alloc, &plan, certificate)
 }
 
-/// The plan, with its certificate.
 pub(crate) fn checked(rt: &impl Abort, alloc: Global, texts: &Texts) -> Checked {
     answer(rt, alloc, texts).ok().expect(rt, "accepted")
 }
 
-/// So many minutes behind 2024-01-01 00:00.
+/// So many minutes after 2024-01-01 00:00.
 pub(crate) fn minute(count: u64) -> Option<Minute> {
     Minute::new(count.saturating_add(28_401_120))
 }

@@ -1,4 +1,4 @@
-//! A daemon over devices that are made up, from its plan to its end.
+//! A daemon over made-up devices, from its plan to its end.
 ghost use Rattle.std.specs.Prelude.{◌≡◌, IfOk, vec_len};
 ghost use Rattle.cs_check.specs.Checked.{plan_in};
 
@@ -29,22 +29,21 @@ pub(crate) fn day(alloc: Global) -> Result<Vec<u64>, AllocError> {
     Ok(minutes)
 }
 
-/// What the devices do.
 #[derive(Drop)]
 pub(crate) struct Script<'a> {
     pub(crate) texts: &'a Texts,
-    /// The minutes that the clock tells.
+    /// The minutes that the clock gives.
     pub(crate) minutes: &'a [u64],
-    /// Which run can't be started, counted from 1; 0 where there is none.
+    /// Which run can't be started, counted from 1; 0 for none.
     pub(crate) run_fails: u64,
-    /// Which line of the log can't be written, counted so too.
+    /// Which line of the log can't be written, counted in the same way.
     pub(crate) line_fails: u64,
     pub(crate) hold: Hold,
     /// For how many milliseconds a run is held at most.
     pub(crate) most: u64,
-    /// How many writes of stamps are awaited.
+    /// How many writes of stamps the clock waits for.
     pub(crate) writes: u64,
-    /// How many of them fail.
+    /// How many of them fail, the first ones.
     pub(crate) failing: u64,
 }
 
@@ -64,23 +63,20 @@ impl<'a> Script<'a> {
     }
 }
 
-/// What stands in the keep that is handed back.
+/// What is left in the keep.
 #[derive(Clone, Copy, PartialEq, Eq)]
 pub(crate) struct InKeep {
     pub(crate) total: u64,
-    /// The present minute.
     pub(crate) minute: u64,
     pub(crate) is_up: bool,
     /// Whether the first anacron job has a stamp.
     pub(crate) is_stamped: bool,
 }
 
-/// Whether the first anacron job has a stamp.
 fn is_stamped(core: &Core) -> bool {
     matches!(core.stamps().first(), Some(Some(_)))
 }
 
-/// What stands in a core, beside the total.
 fn in_core(total: u64, core: &Core) -> InKeep {
     InKeep {
         total,
@@ -90,13 +86,11 @@ fn in_core(total: u64, core: &Core) -> InKeep {
     }
 }
 
-/// What is in the keep.
 fn in_keep(kept: &Kept) -> InKeep {
     let total = kept.total();
     in_core(total, kept.core())
 }
 
-/// What came of a daemon.
 #[derive(Drop)]
 pub(crate) struct Ended {
     pub(crate) cause: Cause,
@@ -109,7 +103,6 @@ pub(crate) struct Ended {
     pub(crate) log_faults: u64,
 }
 
-/// The same with a look into the keep in its place.
 fn look_into(end: DaemonEnd) -> Ended {
     let keep = match &end.keep {
         Some(kept) => Some(in_keep(kept)),
@@ -127,7 +120,6 @@ fn look_into(end: DaemonEnd) -> Ended {
     }
 }
 
-/// What came of it, and what the devices have seen.
 #[derive(Drop)]
 pub(crate) struct Played {
     pub(crate) end: Ended,
@@ -136,12 +128,10 @@ pub(crate) struct Played {
 }
 
 impl Played {
-    /// Whether the log is these lines.
     pub(crate) fn logs(&self, lines: &str) -> bool {
         self.log.as_slice() == lines.as_bytes()
     }
 
-    /// How often this stands in the log.
     pub(crate) fn count(&self, line: &str) -> usize {
         let line = line.as_bytes();
         let mut count: usize = 0;
@@ -177,7 +167,6 @@ fn runners<R: Abort>(
     Ok(runners)
 }
 
-/// Runs the daemon over the devices that have seen this.
 fn run<R: Threads + Wait + Abort + time::Clock + Sync>(
     rt: &R,
     alloc: Global,
@@ -212,7 +201,6 @@ fn run<R: Threads + Wait + Abort + time::Clock + Sync>(
     ))
 }
 
-/// Runs the daemon to its end.
 pub(crate) fn play<R: Threads + Wait + Abort + time::Clock + Sync>(
     rt: &R,
     alloc: Global,

@@ -12,18 +12,15 @@ const LAST: u64 = 4_223_371_679;
 /// The end of the line of a run that its runner has ended.
 const ENDED: &str = " status 3\n";
 
-/// Whether the daemon ended for this cause, with these shares.
 fn has_ended(played: &Played, cause: Cause, total: u64, shares: &[u64]) -> bool {
     let end = &played.end;
     end.cause == cause && end.total == total && end.shares.as_slice() == shares
 }
 
-/// Whether it was stopped, with these shares.
 fn is_stopped(played: &Played, total: u64, shares: &[u64]) -> bool {
     has_ended(played, Cause::Stopped, total, shares)
 }
 
-/// A keep of this total, down at this minute, without stamps.
 fn down(total: u64, minute: u64) -> Option<InKeep> {
     Some(InKeep {
         total,
@@ -33,7 +30,8 @@ fn down(total: u64, minute: u64) -> Option<InKeep> {
     })
 }
 
-/// Up, a minute, a begin and a going down are the clock's, the end is the worker's.
+/// The worker makes the end; the clock makes the coming up, the minute, the begin and the going
+/// down.
 #[test]
 fn one_run(rt: HostRuntime) {
     let alloc: Global = rt.alloc();
@@ -61,7 +59,7 @@ fn two_runs_at_once(rt: HostRuntime) {
     assert!(&rt; played.count(ENDED) == 2 && played.missed == 0);
 }
 
-/// With one worker for both jobs the first waits in vain, and both are run all the same.
+/// With one worker for two jobs, the first waits in vain, and both are run all the same.
 #[test]
 fn one_worker_for_two_runs(rt: HostRuntime) {
     let alloc: Global = rt.alloc();
@@ -84,8 +82,8 @@ fn waiting_run(rt: HostRuntime) {
     assert!(&rt; played.count("waiting") == 1 && played.count(ENDED) == 1);
 }
 
-/// Each minute from 00:59 to 23:59: a coming up, 1,380 minutes, 23 begins and a going down are the
-/// clock's, 23 ends the worker's.
+/// Each minute from 00:59 to 23:59: the clock makes a coming up, 1,380 minutes, 23 begins and a
+/// going down, the worker 23 ends.
 #[test]
 fn a_day(rt: HostRuntime) {
     let alloc: Global = rt.alloc();
@@ -95,7 +93,7 @@ fn a_day(rt: HostRuntime) {
     assert!(&rt; played.end.keep == down(1_428, MIDNIGHT + 1_439));
 }
 
-/// In the last minute there is no other to go on to: a coming up, a minute and a going down.
+/// After the last minute there is no other: a coming up, a minute and a going down.
 #[test]
 fn last_minute(rt: HostRuntime) {
     let alloc: Global = rt.alloc();

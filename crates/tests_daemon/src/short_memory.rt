@@ -10,11 +10,10 @@ const LARGEST: usize = 1 << 36;
 /// The bytes of a piece of the reserve: the C library keeps pieces of this size side by side.
 const PIECE: usize = 1 << 16;
 
-/// How many blocks are held at most.
 const MOST_BLOCKS: usize = 1 << 16;
 
-/// Holds all the memory that the process can get, but for a reserve that is given back bit by bit.
-/// While it is held each growth that finds no room in what was given back is refused.
+/// Holds all the memory that the process can get, except a reserve that is given back bit by bit.
+/// Meanwhile each growth that finds no room in what was given back is refused.
 #[derive(Drop)]
 pub struct Hoard {
     alloc: Global,
@@ -39,7 +38,6 @@ impl Hoard {
         })
     }
 
-    /// Takes blocks of this size until none is left.
     fn take_all(&mut self, size: usize) {
         for _ in 0..MOST_BLOCKS {
             let Ok(block) = Vec::with_capacity(self.alloc, size) else {
@@ -60,7 +58,7 @@ impl Hoard {
         }
     }
 
-    /// Gives back `len` bytes of the reserve, or what is left of a piece where that is less. Answers
+    /// Gives back `len` bytes of the reserve, or what is left of a piece if that is less. Answers
     /// whether there was any.
     pub fn give_back(&mut self, len: usize) -> bool
         ensures some { IsTrue result ↔ 0 < length self.old.reserve.items }

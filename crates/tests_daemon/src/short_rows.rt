@@ -1,5 +1,5 @@
-//! Calls of which each growth is refused in turn: the environment of a command, its parts, what a core
-//! may be told next, and the opening, steps and ticks of a keep.
+//! Calls of which each growth is refused in turn: the environment and the parts of a command, a
+//! core's choices, and the opening, steps and ticks of a keep.
 ghost use Rattle.std.specs.Prelude.{◌≡◌};
 
 use crate::desk::Desk;
@@ -16,26 +16,22 @@ use std::marker::Brand;
 use std::process::Abort;
 use std::sync::ledger::{Blank, Ledger};
 
-/// By how many bytes more memory is given each time.
+/// How many bytes more there are each time.
 const STEP: usize = 64;
 
-/// The same for a long journal, the growths of which are larger.
+/// The same for a long journal, which grows by more.
 const LONG_STEP: usize = 4_096;
 
-/// The most refusals.
 const MOST: u32 = 8_000;
 
-/// Three settings of two names, and a command on line 4.
 const TABLE: &str = "A=1\nB=2\nA=3\n* * * * * /bin/cat\n";
 
-/// Takes all memory but a reserve.
 fn hoard<R: Abort>(rt: &R, alloc: Global) -> Hoard {
     let mut hoard = Hoard::new(alloc, 64).expect(rt, "memory");
     hoard.take_rest();
     hoard
 }
 
-/// Gives some memory back.
 fn give_back<R: Abort>(rt: &R, hoard: &mut Hoard, len: usize) {
     assert!(rt; hoard.give_back(len));
 }
@@ -50,7 +46,7 @@ fn is_environment(found: &[(Bytes, Bytes)]) -> bool {
     is_same
 }
 
-/// Whether the environment is as the settings say. None where memory runs out, as in each of these.
+/// `None` if memory runs out, here and below.
 fn environment(alloc: Global, crontab: &Crontab) -> Option<bool> {
     let found = crontab.env_of(alloc, 4).ok()?;
     Some(is_environment(found.as_slice()))
@@ -65,19 +61,17 @@ fn are_parts(command: &Bytes, input: &Option<Bytes>) -> bool {
     }
 }
 
-/// Whether the command has these two parts.
 fn parts(alloc: Global) -> Option<bool> {
     let (command, input) = command_parts(alloc, b"cat%one%two").ok()?;
     Some(are_parts(&command, &input))
 }
 
-/// Whether a core of which nothing is due may be told of the next minute and of going down.
+/// Whether the choices of an idle core are the next minute and going down.
 fn choices(alloc: Global, core: &Core) -> Option<bool> {
     let found = core.choices(alloc).ok()?;
     Some(found.as_slice() == [Event::Minute(28_401_180), Event::Down].as_slice())
 }
 
-/// Whether a keep is opened.
 fn opens<L: Ledger>(alloc: Global, blank: Blank, checked: &Checked) -> bool
     requires name { blank.name ≡ L.name }
     requires all { blank.parts ≡ L.parts }
@@ -87,7 +81,6 @@ fn opens<L: Ledger>(alloc: Global, blank: Blank, checked: &Checked) -> bool
     opened.is_some()
 }
 
-/// The same of a new blank.
 fn opening(alloc: Global, checked: &Checked) -> Option<bool> {
     if opens::<Brand>(alloc, Blank::new(1), checked) {
         Some(true)
@@ -96,7 +89,7 @@ fn opening(alloc: Global, checked: &Checked) -> Option<bool> {
     }
 }
 
-/// A call that wants memory.
+/// A call that needs memory.
 #[derive(Drop)]
 enum Call<'a> {
     Environment(&'a Crontab),
@@ -106,7 +99,6 @@ enum Call<'a> {
 }
 
 impl Call<'_> {
-    /// Whether its answer is right.
     fn is_right(&self, alloc: Global) -> Option<bool> {
         match self {
             Call::Environment(crontab) => environment(alloc, crontab),
@@ -117,15 +109,14 @@ impl Call<'_> {
     }
 }
 
-/// Whether memory is enough for a call, which is answered rightly then.
+/// Whether there is enough memory for a call, which then answers rightly.
 fn is_answered<R: Abort>(rt: &R, alloc: Global, call: &Call<'_>) -> bool {
     let is_right = call.is_right(alloc);
     assert!(rt; is_right != Some(false));
     is_right.is_some()
 }
 
-/// How often memory runs out for a call, with hardly any at first and some more each time, until it
-/// doesn't.
+/// How often memory runs out for a call, with hardly any at first and some more each time.
 fn refusals<R: Abort>(rt: &R, alloc: Global, call: &Call<'_>, hoard: &mut Hoard) -> u32 {
     for refused in 0..MOST {
         if is_answered(rt, alloc, call) {
@@ -136,7 +127,7 @@ fn refusals<R: Abort>(rt: &R, alloc: Global, call: &Call<'_>, hoard: &mut Hoard)
     MOST
 }
 
-/// Memory runs out for a call at least so many times, and then doesn't.
+/// Memory runs out for a call at least so many times, and then no more.
 fn refuse<R: Abort>(rt: &R, alloc: Global, call: &Call<'_>, least: u32) {
     let mut hoard = hoard(rt, alloc);
     let refused = refusals(rt, alloc, call, &mut hoard);
@@ -174,13 +165,12 @@ fn refused_openings(rt: HostRuntime) {
     refuse(&rt, rt.alloc(), &Call::Opening(&checked), 4);
 }
 
-/// Tries the next minute.
 fn step_on<L: Ledger>(desk: &mut Desk<L>) -> Result<Reply, Refusal> {
     let next = desk.now().number() + 1;
     desk.step(Event::Minute(next))
 }
 
-/// Tries the next minute. Answers whether it was refused for want of memory; then nothing changes.
+/// Tries the next minute. Answers whether memory ran out; then nothing has changed.
 fn is_refused<L: Ledger, R: Abort>(rt: &R, desk: &mut Desk<L>) -> bool {
     let before = desk.place();
     let answer = step_on(desk);
@@ -191,7 +181,6 @@ fn is_refused<L: Ledger, R: Abort>(rt: &R, desk: &mut Desk<L>) -> bool {
     true
 }
 
-/// How many of the next 2,000 minutes are refused.
 fn refused_minutes<L: Ledger, R: Abort>(rt: &R, desk: &mut Desk<L>, hoard: &mut Hoard) -> u64 {
     let mut refused: u64 = 0;
     for _ in 0..2_000 {
@@ -203,7 +192,7 @@ fn refused_minutes<L: Ledger, R: Abort>(rt: &R, desk: &mut Desk<L>, hoard: &mut 
     refused
 }
 
-/// The same with hardly any memory at first, and some more behind each refusal.
+/// The same with hardly any memory at first, and some more after each refusal.
 fn refuse_minutes<L: Ledger, R: Abort>(rt: &R, alloc: Global, desk: &mut Desk<L>) -> u64 {
     let mut hoard = hoard(rt, alloc);
     let refused = refused_minutes(rt, desk, &mut hoard);
@@ -217,18 +206,16 @@ pub(crate) fn step_short<L: Ledger, R: Abort>(rt: &R, alloc: Global, desk: &mut 
     assert!(rt; desk.total() == 2_000_u64.saturating_sub(refused));
 }
 
-/// Ticks to this minute.
 fn tick_on<L: Ledger>(desk: &mut Desk<L>, minute: Minute) -> Result<(), TickFault> {
     let present = desk.now();
     desk.tick(present, minute)
 }
 
-/// Whether the total is no less, and all steps are the seat's.
 fn has_no_less<L: Ledger>(desk: &Desk<L>, total: u64) -> bool {
     total <= desk.total() && desk.seat.share() == desk.total()
 }
 
-/// Whether memory runs out for a tick to this minute. The earlier events stay.
+/// Whether memory runs out for a tick to this minute; the earlier events stay.
 fn is_cut_short<L: Ledger, R: Abort>(rt: &R, desk: &mut Desk<L>, minute: Minute) -> bool {
     let total = desk.total();
     let answer = tick_on(desk, minute);
@@ -240,7 +227,7 @@ fn is_cut_short<L: Ledger, R: Abort>(rt: &R, desk: &mut Desk<L>, minute: Minute)
 }
 
 /// Ticks until all events of the minute are made, with more memory after each refusal. Answers how
-/// many there were.
+/// many refusals there were.
 fn cut_short<L: Ledger, R: Abort>(
     rt: &R,
     desk: &mut Desk<L>,

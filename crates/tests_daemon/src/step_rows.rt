@@ -20,7 +20,6 @@ fn is_seat<L: Ledger>(seat: &Seat<L>, parts: u64, share: u64, seen: u64) -> bool
     (seat.parts(), seat.share(), seat.seen()) == (parts, share, seen)
 }
 
-/// A minute is accepted, and refused a second time.
 fn step_twice<L: Ledger, R: Abort>(rt: &R, desk: &mut Desk<L>) {
     assert!(rt; desk.counts() == (0, 0, 0));
     assert!(rt; desk.step(Event::Minute(DUE)) == Ok(Reply::Clock));
@@ -29,7 +28,6 @@ fn step_twice<L: Ledger, R: Abort>(rt: &R, desk: &mut Desk<L>) {
     assert!(rt; desk.counts() == (1, 1, 1) && desk.ends_with(0, &[Event::Minute(DUE)]));
 }
 
-/// The seat gives a part, and takes it back.
 fn split_twice<L: Ledger, R: Abort>(rt: &R, desk: &mut Desk<L>)
     requires { L.parts ≡ 2 }
 {
@@ -40,7 +38,6 @@ fn split_twice<L: Ledger, R: Abort>(rt: &R, desk: &mut Desk<L>)
     assert!(rt; is_seat(&desk.seat, 2, 1, 1));
 }
 
-/// The journal begins anew.
 fn cut_once<L: Ledger, R: Abort>(rt: &R, desk: &mut Desk<L>) {
     assert!(rt; desk.cut() && desk.counts() == (1, 0, 1));
     assert!(rt; desk.base() == (DUE, true));
@@ -57,19 +54,18 @@ fn count_minutes<L: Ledger, R: Abort>(rt: &R, alloc: Global, blank: Blank)
     cut_once(rt, &mut desk);
 }
 
-/// A minute is counted in total, journal and share; it is refused a second time; a seat is split and
+/// A minute counts in total, journal and share, and is refused a second time; a seat is split and
 /// joined; the journal is cut.
 #[test]
 fn minutes_are_counted(rt: HostRuntime) {
     count_minutes::<Brand, _>(&rt, rt.alloc(), Blank::new(2));
 }
 
-/// Whether this is left of a keep that has made a minute.
 fn is_kept(kept: &Kept) -> bool {
     (kept.total(), kept.journal().len()) == (1, 1)
 }
 
-/// The minute from which the journal goes on, the present one, and the version of the certificate.
+/// The minute from which the journal goes on, the present one, and the certificate's version.
 fn rest_of(kept: &Kept) -> (u64, u64, u8) {
     (
         kept.base().now().number(),
@@ -91,13 +87,12 @@ fn close_keep<L: Ledger, R: Abort>(rt: &R, alloc: Global, blank: Blank)
     assert!(rt; is_kept(&kept) && rest_of(&kept) == (BEFORE, DUE, 1));
 }
 
-/// What is left of a closed keep is its journal, and what was checked.
+/// A closed keep leaves its journal and what was checked.
 #[test]
 fn closed(rt: HostRuntime) {
     close_keep::<Brand, _>(&rt, rt.alloc(), Blank::new(1));
 }
 
-/// The run goes on, and then ends.
 pub(crate) fn run_once<L: Ledger, R: Abort>(rt: &R, desk: &mut Desk<L>) {
     let run = Run { job: 0, at: DUE };
     assert!(rt; desk.step(Event::Minute(DUE)).is_ok() && !desk.cut());

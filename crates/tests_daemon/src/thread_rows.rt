@@ -20,7 +20,6 @@ fn make_minute<L: Ledger>(keep: &mut Keep<L>, seat: &mut Seat<L>) {
     let _ = keep.step(seat, Event::Minute(present));
 }
 
-/// Makes so many minutes, each under the lock.
 fn make_minutes<L: Ledger, R: Wait>(
     rt: &R,
     lock: &Mutex<Keep<L>>,
@@ -35,7 +34,7 @@ fn make_minutes<L: Ledger, R: Wait>(
     seat
 }
 
-/// The keep and both seats, when two threads have made minutes by them.
+/// The keep and both seats, after two threads have made minutes with them.
 fn share<L: Ledger + Send + Sync, R: Threads + Wait + Sync>(
     rt: &R,
     keep: Keep<L>,

@@ -6,18 +6,16 @@ use cs_keep::TickFault;
 use std::process::Abort;
 use std::sync::ledger::Ledger;
 
-/// Ticks from the one minute behind 2024-01-01 00:00 to the other. None where there is no such minute.
+/// Both minutes are counted from 2024-01-01 00:00. `None` if there is no such minute.
 fn tick<L: Ledger>(desk: &mut Desk<L>, last: u64, next: u64) -> Option<Result<(), TickFault>> {
     Some(desk.tick(minute(last)?, minute(next)?))
 }
 
-/// Whether this tick makes just these events.
 fn makes<L: Ledger>(desk: &mut Desk<L>, last: u64, next: u64, events: &[Event]) -> bool {
     let from = desk.length();
     tick(desk, last, next) == Some(Ok(())) && desk.ends_with(from, events)
 }
 
-/// One of two jobs waits until the other has ended.
 pub(crate) fn wait_for_lock<L: Ledger, R: Abort>(rt: &R, desk: &mut Desk<L>) {
     let at = 28_401_180;
     let begins = [Event::Minute(at), Event::Begin(0), Event::Begin(1)];

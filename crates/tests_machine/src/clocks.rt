@@ -1,4 +1,4 @@
-//! The machine's clock over a time that goes on by sleeping alone.
+//! The machine's clock over a time that only sleeping moves on.
 use cs_civil::Minute;
 use cs_device::{Clock, Tick};
 use cs_machine::{Attendant, ClockBack, MachineClock};
@@ -6,7 +6,7 @@ use std::cell::Cell;
 use std::time::Duration;
 use std::{io, time};
 
-/// A time in seconds since 1970, for how long was slept so far, and whether it can be read.
+/// A time in seconds since 1970, how long was slept so far, and whether it can be read.
 #[derive(Drop)]
 struct Time {
     now: Cell<u64>,
@@ -23,7 +23,6 @@ impl Time {
         }
     }
 
-    /// Sets the time, which can't be read where there is none.
     fn set(&self, now: Option<u64>) {
         self.is_broken.set(now.is_none());
         self.now.set(now.unwrap_or(0));
@@ -50,7 +49,7 @@ impl time::Clock for Time {
     }
 }
 
-/// An attendant that is asked to end when it is asked for this time, and counts how often it was.
+/// An attendant that reports a request to stop from its `end`-th question on, and counts questions.
 #[derive(Drop)]
 struct Counting<'a> {
     asked: &'a Cell<u64>,
@@ -71,7 +70,6 @@ const SECOND: u64 = 1_677_625_140;
 
 const MINUTE: u64 = 27_960_419;
 
-/// The answer of a minute's number.
 fn at(minute: u64) -> Tick {
     match Minute::new(minute) {
         Some(minute) => Tick::At(minute),
@@ -79,13 +77,12 @@ fn at(minute: u64) -> Tick {
     }
 }
 
-/// The next answer of a clock that told this minute last.
 fn next(clock: &mut MachineClock<'_, Time, Counting<'_>>, minute: u64) -> Tick {
     clock.tick(Minute::new(minute))
 }
 
-/// Times, 0 where one can't be read: some that go back, by up to an hour and by more, and some after
-/// a clock with a limit of five minutes has stopped.
+/// Times, 0 for one that can't be read: some go back, by up to an hour and by more, and some come
+/// after a clock with a limit of five minutes has stopped.
 const TIMES: [u64; 10] = [
     0,
     SECOND,
@@ -127,7 +124,8 @@ fn looks_at_the_time(rt: HostRuntime) {
     }
 }
 
-/// Whether a clock that is asked to end when it is asked for this time sleeps and asks so.
+/// Whether the clock sleeps and asks once for each answer after the first, until the `end`-th
+/// question stops it.
 fn ends_when_asked(end: u64) -> bool {
     let time = Time::new(SECOND);
     let asked = Cell::new(0);
@@ -145,8 +143,8 @@ fn ends_when_asked(end: u64) -> bool {
     next(&mut clock, MINUTE) == Tick::Stop && (time.slept.get(), asked.get()) == (end, end)
 }
 
-/// It sleeps for a second before its second answer, the third and so on, and then is asked to end,
-/// though its minute could be told.
+/// The clock sleeps for a second before its second answer, the third and so on; at the request to
+/// stop it stops, though it could give its minute.
 #[test]
 fn asked_to_end(rt: HostRuntime) {
     for end in 1..5 {

@@ -1,4 +1,4 @@
-//! Stamps over a machine that ends in the middle of a write.
+//! Stamps on a machine that ends in the middle of a write.
 use crate::scratch::{new_folder, put, remove_folder};
 use cs_civil::Day;
 use cs_device::{Stamp, StampStore};
@@ -22,7 +22,6 @@ struct Life {
 }
 
 impl Life {
-    /// Makes a call, or fails where the machine has ended.
     fn call(&self, digit: u64) -> io::Result<()> {
         match self.left.get().checked_sub(1) {
             Some(left) => {
@@ -36,15 +35,14 @@ impl Life {
     }
 }
 
-/// The machine's files, in which nothing more happens once it has ended. What a trait answers by itself
-/// would be dearer to prove here than to pass on.
+/// The machine's files, to which nothing happens once it has ended. Methods that a trait provides
+/// are dearer to prove here than to pass on.
 #[derive(Drop)]
 struct Mortal<'a, R> {
     rt: &'a R,
     life: &'a Life,
 }
 
-/// One of its files.
 #[derive(Drop)]
 struct MortalFile<'a, F> {
     file: F,
@@ -184,7 +182,7 @@ impl<'a, R: Files> Files for Mortal<'a, R> {
     }
 }
 
-/// What a new look at a folder says of its stamp. None where there is no such folder.
+/// What a new look at a folder gives for its stamp. `None` if there is no such folder.
 fn stamp<R: Files>(rt: &R, alloc: Global, folder: &str) -> Option<Stamp> {
     match StampsFolder::open(rt, alloc, folder) {
         Ok(mut store) => Some(store.read(b"job")),
@@ -192,7 +190,6 @@ fn stamp<R: Files>(rt: &R, alloc: Global, folder: &str) -> Option<Stamp> {
     }
 }
 
-/// Whether a stamp is told as written.
 fn is_written<R: Files>(rt: &R, alloc: Global, folder: &str, day: Day) -> bool {
     match StampsFolder::open(rt, alloc, folder) {
         Ok(mut store) => store.write(b"job", day),
@@ -200,7 +197,6 @@ fn is_written<R: Files>(rt: &R, alloc: Global, folder: &str, day: Day) -> bool {
     }
 }
 
-/// Whether a write is told as done on a machine with this life.
 fn write_in<'x, R: Files + AllocGlobal>(rt: &'x R, life: &'x Life, folder: &str, day: Day) -> bool {
     let mortal = Mortal { rt, life };
     is_written(&mortal, rt.alloc(), folder, day)
@@ -216,8 +212,8 @@ fn write_until<R: Files + AllocGlobal>(rt: &R, folder: &str, day: Day, calls: u6
     (is_written, life.calls.get())
 }
 
-/// How many calls the machine makes, whether the write is told as done and which calls it made, and
-/// whether the new stamp stands.
+/// How many calls the machine makes, whether the write is reported as done, which calls it made,
+/// and whether the new stamp stands.
 type Row = (u64, (bool, u64), bool);
 
 const ROWS: [Row; 8] = [
@@ -231,7 +227,6 @@ const ROWS: [Row; 8] = [
     (7, (true, 123_413), true),
 ];
 
-/// Whether a write of the new day over the old one goes as the row tells.
 fn goes_so<R: Files + AllocGlobal>(rt: &R, folder: &str, old: Day, new: Day, row: Row) -> bool {
     let (calls, written, is_new) = row;
     let stays = if is_new { new } else { old };
@@ -240,8 +235,9 @@ fn goes_so<R: Files + AllocGlobal>(rt: &R, folder: &str, old: Day, new: Day, row
         && stamp(rt, rt.alloc(), folder) == Some(Stamp::On(stays))
 }
 
-/// Opened, written and synced beside, renamed, the folder opened and synced: before the renaming
-/// the old stamp stands, from then on the new one. What a crash left beside is in nobody's way.
+/// The calls: opened, written and synced beside the stamp, renamed, the folder opened and synced.
+/// Before the renaming the old stamp stands, from then on the new one. What a crash leaves beside
+/// it is in nobody's way.
 #[test]
 fn ends_in_a_write(rt: HostRuntime) {
     let folder = new_folder(&rt, "crashes", id(rt.process()));

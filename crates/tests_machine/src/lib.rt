@@ -1,4 +1,4 @@
-//! Rows of the machine's devices, and of files that are read.
+//! Tests the machine's devices, and the reading of files.
 #![tactic(auto)]
 
 #[cfg(test)]

@@ -1,4 +1,4 @@
-//! Files that are read in their turn, of which one can't be read.
+//! Files that are read one after the other, one of which can't be read.
 ghost use Rattle.std.specs.Prelude.{◌≡◌, ◌≤◌, ◌==◌, ◌&&◌, Some, drop, if◌then◌else◌, length, map};
 ghost use Rattle.std.specs.Prelude.{reverse};
 ghost use Rattle.std.specs.Str.{bytes_eq};
@@ -23,7 +23,6 @@ struct Shelf<'a, R: Abort + AllocGlobal> {
 }
 
 impl<'a, R: Abort + AllocGlobal> Shelf<'a, R> {
-    /// Declarations, and a path that can't be read.
     fn new(rt: &'a R, broken: &'a str) -> Shelf<'a, R> {
         let bytes = b"{\"capacity\":1}".as_slice();
         Shelf {
@@ -37,7 +36,6 @@ impl<'a, R: Abort + AllocGlobal> Shelf<'a, R> {
         }
     }
 
-    /// Whether these are all reads so far.
     fn has_read(&self, paths: &[&str]) -> bool {
         for (read, path) in self.reads.as_slice().iter().zip(paths) {
             if read.as_str() != *path {
@@ -47,7 +45,7 @@ impl<'a, R: Abort + AllocGlobal> Shelf<'a, R> {
         self.reads.len() == paths.len()
     }
 
-    /// What the next read begins with: what is left behind so many bytes, or all after the end.
+    /// What the next read begins with: what is left after so many bytes; all of it after the end.
     fn rest_behind(&self, n: usize) -> &'a [u8]
         requires { n ≤ length self.now.rest.now }
         ensures { result.now ≡ (if n == 0 then self.now.bytes.now else drop n self.now.rest.now) }
@@ -84,7 +82,8 @@ impl<'a, R: Abort + AllocGlobal> Inputs for Shelf<'a, R> {
     }
 }
 
-/// What a call says that can't read a file; nothing if it reads all of them, one after the other.
+/// The message of a call that can't read a file; nothing if it reads all of them, one after the
+/// other.
 fn told<R: Abort + AllocGlobal>(rt: &R, shelf: &mut Shelf<'_, R>) -> Option<Response> {
     let (alloc, mut unheard) = (rt.alloc(), Printer::new(io::sink()));
     let (table, jobs, path) = ("crontab", Some("anacrontab"), "declarations");
@@ -94,7 +93,7 @@ fn told<R: Abort + AllocGlobal>(rt: &R, shelf: &mut Shelf<'_, R>) -> Option<Resp
     }
 }
 
-/// Whether this line is told of a failed device; or nothing, where there is none.
+/// Whether the message is this line, for a failed device; no message for an empty line.
 fn is_told(told: Option<Response>, line: &str) -> bool {
     match told {
         Some(told) => told.status() == Status::DeviceFailed && told.err() == line.as_bytes(),
@@ -102,8 +101,8 @@ fn is_told(told: Option<Response>, line: &str) -> bool {
     }
 }
 
-/// Three files are read one after the other, and none after one that can't be read, whose path is
-/// told.
+/// Three files are read one after the other, and none after one that can't be read; the message
+/// names its path.
 #[test]
 fn files_in_their_turn(rt: HostRuntime) {
     let turn = ["crontab", "anacrontab", "declarations", "declarations"];

@@ -4,18 +4,17 @@ use std::path::PathBuf;
 use std::process::Abort;
 use std::rt::{Env, Files};
 
-/// The machine's folder for what is made by the way.
+/// The machine's folder for temporary files.
 fn parent<R: Env + Abort + AllocGlobal>(rt: &R) -> PathBuf {
     std::env::temp_dir(rt).expect(rt, "a folder for tests")
 }
 
-/// A path in a folder, by two words and the process.
 fn path_of<R: Abort + AllocGlobal>(rt: &R, parent: &PathBuf, name: &str, process: u32) -> String {
     let parent = parent.as_path().display();
     format!(in rt.alloc(); "{parent}/cronsafe_{name}_{process}").expect(rt, "memory")
 }
 
-/// A new folder of the machine's folder for such, by the test's name and the process.
+/// A new temporary folder, named after the test and the process.
 pub(crate) fn new_folder<R: Files + Env + Abort + AllocGlobal>(
     rt: &R,
     name: &str,
@@ -31,12 +30,10 @@ pub(crate) fn remove_folder<R: Files + Abort + AllocGlobal>(rt: &R, folder: &str
     fs::remove_dir_all(rt, folder).expect(rt, "no folder");
 }
 
-/// The path of a file in a folder.
 pub(crate) fn path_in<R: Abort + AllocGlobal>(rt: &R, folder: &str, name: &str) -> String {
     format!(in rt.alloc(); "{folder}/{name}").expect(rt, "memory")
 }
 
-/// Puts a text into a file of a folder.
 pub(crate) fn put<R: Files + Abort + AllocGlobal>(rt: &R, folder: &str, name: &str, text: &[u8]) {
     let path = path_in(rt, folder, name);
     fs::write(rt, path.as_str(), text).expect(rt, "a file");

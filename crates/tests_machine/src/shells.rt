@@ -1,8 +1,8 @@
-//! Inputs of commands, as the shell of this machine runs them.
+//! Inputs of commands, as this machine's shell runs them.
 use cs_device::{Outcome, Runner};
 use cs_machine::{Remarks, ShellRunner};
 
-/// An input that is longer than a pipe holds, of commands that read all of it, some and none.
+/// An input that is longer than a pipe holds; commands read all of it, some or none.
 #[test]
 fn long_inputs(rt: HostRuntime) {
     let input = vec![in rt.alloc(); b'x'; 1_000_000].expect(&rt, "memory");

@@ -1,4 +1,4 @@
-//! What stands in the place of the files by which a daemon is asked.
+//! Other things in the place of the files by which a daemon is asked to stop.
 use crate::scratch::{new_folder, path_in, remove_folder};
 use cs_machine::RequestFile;
 use std::fs;

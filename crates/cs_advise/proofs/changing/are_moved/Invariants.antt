@@ -3,7 +3,6 @@ use Rattle.cs_plan.specs.Plan.{no_command}
 use Rattle.cs_advise.specs.Change.{IsMovedLine, shift_of}
 use Rattle.cs_advise.proofs.changing.are_moved.Given as goal
 
--- the commands so far are moved so
 abbrev pub invariant-loop-job : goal.invariant-loop-job
 invariant-loop-job l =
     (j : ℕ) → j < l.job

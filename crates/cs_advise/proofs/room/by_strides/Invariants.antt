@@ -4,7 +4,6 @@ use Rattle.cs_plan.specs.declared.limits.TheConstants.{MAX_MINUTES}
 use Rattle.cs_judge.specs.Called.{IsCalledSafe}
 use Rattle.cs_advise.proofs.room.by_strides.Given as goal
 
--- the time below the next stride is safe
 abbrev pub invariant-loop-low : goal.invariant-loop-low
 invariant-loop-low g l =
     (l.fn.max ≤ l.low) × (1 ≤ l.low) × (l.low ≤ MAX_MINUTES) × (1 ≤ l.stride) × (l.stride ≤ 8 * MAX_MINUTES)

@@ -4,7 +4,6 @@ use Rattle.cs_plan.specs.declared.limits.TheConstants.{MAX_MINUTES}
 use Rattle.cs_judge.specs.Called.{IsCalledSafe}
 use Rattle.cs_advise.proofs.room.halved.Given as goal
 
--- the lower end is safe
 abbrev pub invariant-loop-low : goal.invariant-loop-low
 invariant-loop-low g l =
     (l.fn.low ≤ l.low) × (1 ≤ l.low) × (l.low ≤ MAX_MINUTES) × (l.high ≤ MAX_MINUTES)

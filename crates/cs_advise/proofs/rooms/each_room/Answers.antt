@@ -22,7 +22,6 @@ collect-requires-clause-ready g c κs within =
     let inside = nat_range-All (λ i. i < length c.args.plan.now.jobs) 0 (length jobs) (λ i low high. omega (arith, high, long)) in
     rw (c.map.ensures.base, c.map.ensures.f, c.with_min_len.ensures.base, ends.0, ends.1) (λ k d lt. (((inside k d lt, few, c.requires), record { shared = c.type_bounds.sync-R.shared }), λ y p. tt))
 
--- what was answered for each number
 each : (g : Over) (c : goal.In_ok-collect g) → IfOk c.in_ok-collect.field-0 (λ rooms. (numbers_of rooms.items ≡ range_with_len 0 (length c.args.plan.now.jobs)) × All (IsRoom c.args.plan.now) rooms.items)
 each g c =
     let h = c.in_ok-collect.ensures in

@@ -3,7 +3,6 @@ use Rattle.std.specs.Fmt.{decimal}
 use Rattle.cs_advise.specs.Names.{job_label}
 use Rattle.cs_advise.proofs.rooms.room_line.Goals as goal
 
--- the parts of a line, one behind the other
 chained : (job front max middle most more : List ℕ) → (((((job ++ front) ++ max) ++ middle) ++ most) ++ more) ≡ job ++ (front ++ (max ++ (middle ++ (most ++ more))))
 chained job front max middle most more =
     append_assoc ((((job ++ front) ++ max) ++ middle)) most more

@@ -5,7 +5,6 @@ use Rattle.cs_advise.specs.Room.{IsRoomLine}
 use Rattle.cs_advise.proofs.Advised.{joined, zipped}
 use Rattle.cs_advise.proofs.rooms.rooms_text.Goals as goal
 
--- one item more has its line
 one_more : {A B : Type 0} (R : A → B → Type 0) (xs : List A) (i : ℕ) (x : A) (ys : List B) (y : B) → i < length xs → AllZip R (take i xs) ys → R (get_or xs i x) y → AllZip R (take (i + 1) xs) (ys ++ y ∷ [])
 one_more R xs i x ys y lt all r = rw (take_more xs i x lt) (zipped R (take i xs) ys (get_or xs i x) y all r)
 

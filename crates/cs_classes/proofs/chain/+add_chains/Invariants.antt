@@ -7,7 +7,6 @@ use Rattle.cs_classes.proofs.chain.+add_chains.Given as goal
 abbrev pub decreases-add_chains : goal.decreases-add_chains
 decreases-add_chains l = l.more
 
--- the chains so far, and those of the kinds that are left
 abbrev pub invariant-loop-kind : goal.invariant-loop-kind
 invariant-loop-kind l =
     map kinds_of l.chains.items ++ map (λ ks. l.chain.items ++ ks) (flat_map (chains_from (l.more - 1)) (drop l.kind-index l.kind-items))

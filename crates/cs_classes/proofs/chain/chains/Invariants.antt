@@ -5,7 +5,6 @@ use Rattle.cs_theorem.specs.Faults.{chains_from}
 use Rattle.cs_classes.specs.Chains.{kinds_of}
 use Rattle.cs_classes.proofs.chain.chains.Given as goal
 
--- the chains so far, and those of the kinds that are left
 abbrev pub invariant-loop-kind : goal.invariant-loop-kind
 invariant-loop-kind l =
     map kinds_of l.listed.items ++ map (λ ks. l.begun.items ++ ks) (flat_map (chains_from (l.days - 1)) l.kind-iterator)

@@ -5,7 +5,6 @@ use Rattle.cs_classes.specs.Chains.{kinds_of}
 use Rattle.cs_classes.specs.Used.{kinds_in, classes_in}
 use Rattle.cs_classes.proofs.classed.classed_chains.Given as goal
 
--- the chains so far, and those that are left
 abbrev pub invariant-loop-kinds : goal.invariant-loop-kinds
 invariant-loop-kinds l = record {
   all : map kinds_in l.classed.items ++ map kinds_of l.kinds-iterator.rest.items ≡ chains l.days;

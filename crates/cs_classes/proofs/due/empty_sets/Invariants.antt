@@ -1,6 +1,5 @@
 use Rattle.std.proofs.Common.{◌≡◌, [], ℕ, ◌<◌, length, slice_index_or}
 use Rattle.cs_classes.proofs.due.empty_sets.Given as goal
 
--- a set without a minute for each job so far
 abbrev pub invariant-loop : goal.invariant-loop
 invariant-loop l = (length l.sets.items ≡ l.counter) × ((j : ℕ) → j < l.counter → slice_index_or l.sets.items j [] ≡ [])

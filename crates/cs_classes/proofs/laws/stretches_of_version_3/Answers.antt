@@ -14,7 +14,6 @@ use Rattle.cs_classes.proofs.Distinct.{all_pass, each_among, each_itself, each_m
 use Rattle.cs_classes.proofs.Searched.{any_map}
 use Rattle.cs_classes.proofs.laws.stretches_of_version_3.Goals as goal
 
--- the stretches are those of the kinds
 worked_out : (d : Declared) (c : Content) → c.version ≡ 3 → (as_certificate (claimed d c)).stretches ≡ map bare (class_lists c (days_for d c))
 worked_out d c is = ap (λ (b : Bool). cond b (map bare (class_lists c (days_for d c))) (map listed c.stretches)) (eq-eqb c.version 3 is)
 

@@ -3,7 +3,6 @@ use Rattle.cs_schedule.specs.Numbers.{has}
 use Rattle.cs_classes.specs.Likeness.{likeness_at, likeness_by}
 use Rattle.cs_classes.proofs.likeness.row_of.Given as goal
 
--- a place for each job so far
 abbrev pub invariant-loop-job : goal.invariant-loop-job
 invariant-loop-job l =
     (length l.row ≡ l.job)

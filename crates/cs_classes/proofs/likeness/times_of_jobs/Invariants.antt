@@ -4,7 +4,6 @@ use Rattle.cs_schedule.specs.Numbers.{has}
 use Rattle.cs_classes.specs.Likeness.{is_due_minute}
 use Rattle.cs_classes.proofs.likeness.times_of_jobs.Given as goal
 
--- a set for each job so far
 abbrev pub invariant-loop-line : goal.invariant-loop-line
 invariant-loop-line l =
     (length l.times.items ≡ l.line-index)

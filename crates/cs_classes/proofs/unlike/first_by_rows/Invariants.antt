@@ -5,6 +5,5 @@ use Rattle.cs_classes.specs.Said.{said}
 use Rattle.cs_classes.proofs.Alike.{unlike}
 use Rattle.cs_classes.proofs.unlike.first_by_rows.Given as goal
 
--- none of the kinds so far is unlike its class
 abbrev pub invariant-loop-kind : goal.invariant-loop-kind
 invariant-loop-kind l = first_of (unlike l.plan (said l.claim)) l.kind-iterator ≡ first_of (unlike l.plan (said l.claim)) all_kinds

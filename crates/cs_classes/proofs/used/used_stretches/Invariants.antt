@@ -5,7 +5,6 @@ use Rattle.cs_classes.specs.Said.{said}
 use Rattle.cs_classes.specs.Used.{IsInUse, seen}
 use Rattle.cs_classes.proofs.used.used_stretches.Given as goal
 
--- the stretches in use so far
 abbrev pub invariant-loop-number : goal.invariant-loop-number
 invariant-loop-number l = record {
   listed : map seen l.used.items ≡ filter (λ s. is_used (as_certificate (said l.claim)) l.days s.of) (take l.number (said l.claim).stretches);

@@ -22,7 +22,6 @@ one_more f n so_far next more h k e =
     k ∙ ap (λ (xs : List DueList). xs ++ more) h ∙ ap (λ (xs : List DueList). flat_map f (below n) ++ xs) (e ∙ sym (append_none (f n)))
     ∙ sym (ap (λ (m : ℕ). flat_map f (below m)) s ∙ flat_map-append f (below n) (n ∷ []))
 
--- the line at a place of the crontab
 line_there : (lines : List CommandLine) (d : Declared) (j : ℕ) (line : CommandLine) → j < length lines → lines ≡ d.crontab.lines → line ≡ slice_index_or lines j line → line ≡ command_of d j
 line_there lines d j line lt same is = is ∙ (within lines j line no_command lt ∙ ap (λ (ls : List CommandLine). slice_index_or ls j no_command) same)
 

@@ -6,6 +6,5 @@ use Rattle.cs_classes.specs.Planned.{due_on}
 use Rattle.cs_classes.specs.StandsFor.{due_list}
 use Rattle.cs_classes.proofs.worked.due_on.Given as goal
 
--- the jobs so far
 abbrev pub invariant-loop-job : goal.invariant-loop-job
 invariant-loop-job l = l.due ≡ flat_map (λ j. due_list j (filter (due_on l.plan j l.kind) day_minutes)) (below l.job)

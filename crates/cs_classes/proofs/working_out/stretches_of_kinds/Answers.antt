@@ -20,7 +20,6 @@ classes_all c (x ∷ xs) h =
     ap (λ (l : List ℕ). l ∷ map classes_in xs) (All-head (λ chain. classes_in chain ≡ map (class_of c) (kinds_in chain)) x xs h)
     ∙ ap (λ (ls : List (List ℕ)). map (class_of c) (kinds_in x) ∷ ls) (classes_all c xs (All-tail (λ chain. classes_in chain ≡ map (class_of c) (kinds_in chain)) x xs h))
 
--- the lists of classes of all chains
 lists_are : (c : Content) (n m : ℕ) (listed lent : List ClassedChain) → lent ≡ listed → AreClassed c.kinds n listed → n ≡ m → distinct (map classes_in lent) ≡ class_lists c m
 lists_are c n m listed lent same known e =
     ap (λ (l : List ClassedChain). distinct (map classes_in l)) same

@@ -4,7 +4,6 @@ use Rattle.cs_gather.specs.Tables.{Given, IsBelow, found_table}
 use Rattle.cs_gather.proofs.ListingLemmas.{is_file, kept, last_of, maybe_more, no_file}
 use Rattle.cs_gather.proofs.below.push_crontab.Goals as goal
 
--- a table whose path and path below the root folder are these
 is_found : (given : Given) (path below front : Text) → given ≡ found_table path below None → below ≡ codes "/etc/crontab" → path ≡ front ++ codes "/etc/crontab"
     → given ≡ found_table (front ++ codes "/etc/crontab") (codes "/etc/crontab") None
 is_found given path below front is inner whole =

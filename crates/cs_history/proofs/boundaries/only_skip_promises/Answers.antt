@@ -10,13 +10,12 @@ safe_last : (p : Plan) (h : History) → IsSafe p h → IsSafeNow p h
 safe_last p (From s) safe = safe
 safe_last p (h ▸ e) safe = safe.1
 
--- what is safe of the runs that run
 abbrev AreSafe : Plan → List Going → Type 0
 AreSafe p rs =
     EachPair (λ r q. (rivals p q.run.job r.run.job && not (both_share p q.run.job r.run.job)) ≡ false) rs
     × (total (λ r. p.weight r.run.job) rs ≤ p.capacity)
 
--- a run that is skipped leaves those that run
+-- a skipped run changes nothing in what runs
 pub returns-clause-tried : goal.returns-clause-tried
 returns-clause-tried c p h j of_try held safe =
     let skipped : answer p (running p h) j ≡ Skips = ap (λ (b : Bool). if b then Starts else when_held (p.mode j)) held ∙ ap when_held of_try in

@@ -5,7 +5,6 @@ use Rattle.cs_machine.specs.declared.hook_call.HookCall.TheVariants.{Overrun, Fa
 use Rattle.cs_machine.specs.declared.setup.JobNote.{JobNote}
 use Rattle.cs_machine.proofs.hook_call.call_of.Goals as goal
 
--- a line that tells neither a late run nor a failed one
 no_call : (words : List ℕ) (jobs : List JobNote) → ((run : List ℕ) → words ≢ codes "overrun " ++ run) → ((run status : List ℕ) → ¬ (TellsFailure words run status)) → (it : TheCall) → ¬ (Tells words jobs it)
 no_call words jobs late failed (Overrun run peers) told = late run told.0
 no_call words jobs late failed (Failure run status) told = failed run status told

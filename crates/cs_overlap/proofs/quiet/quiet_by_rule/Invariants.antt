@@ -4,8 +4,8 @@ use Rattle.cs_overlap.specs.Roles.{load_by}
 use Rattle.cs_overlap.specs.Quietness.{EachWithMet, IsLightWith, PassesWith, Keeps, apart_by, free_by}
 use Rattle.cs_overlap.proofs.quiet.quiet_by_rule.Given as goal
 
--- where the windows still to come are harmless with those before them, all are; and the active ones
--- are those that the next may meet
+-- if the windows to come are harmless with those before them, all are; the active ones are those
+-- that the next may meet
 abbrev pub invariant-loop-window : goal.invariant-loop-window
 invariant-loop-window l = record {
   apart : IsTrue l.is_apart → EachWithMet (PassesWith (apart_by l.roles)) (take l.window-index l.windows) (drop l.window-index l.windows) → EachWithMet (PassesWith (apart_by l.roles)) [] l.windows;

@@ -1,7 +1,6 @@
 use Rattle.std.proofs.Common.{◌≡◌, ℕ, ◌+◌, ◌≤◌, ◌<◌, length, min, slice_index}
 use Rattle.cs_overlap.proofs.table.add.Given as goal
 
--- the minutes so far have their new number, the others their old one
 abbrev pub invariant-loop-minute : goal.invariant-loop-minute
 invariant-loop-minute l = record {
   long : length l.table ≡ 1440;

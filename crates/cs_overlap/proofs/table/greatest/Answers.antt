@@ -9,7 +9,6 @@ use Rattle.cs_overlap.proofs.HolderLemmas.{none, greatest_step}
 use Rattle.cs_overlap.proofs.TallyLemmas.{none_at}
 use Rattle.cs_overlap.proofs.table.greatest.Goals as goal
 
--- a table only rises
 risen : (old new : List ℕ) (first end number : ℕ) → ((m : ℕ) → first ≤ m → m < end → slice_index new m ≡ max (slice_index old m) number)
     → ((m : ℕ) → (first ≤ m → m < end → ⊥) → slice_index new m ≡ slice_index old m) → (m : ℕ) → slice_index old m ≤ slice_index new m
 risen old new first end number held other m = ⊎_elim

@@ -2,7 +2,6 @@ use Rattle.std.proofs.Common.{◌≡◌, ℕ, ◌+◌, ◌*◌, ◌≤◌, ◌<�
 use Rattle.cs_overlap.specs.Sums.{capped, up_to}
 use Rattle.cs_overlap.proofs.table.running.Given as goal
 
--- what goes on is what has begun and not ended, and the minutes so far have it
 abbrev pub invariant-loop-minute : goal.invariant-loop-minute
 invariant-loop-minute l = record {
   long : length l.table ≡ 1440;

@@ -3,7 +3,6 @@ use Rattle.std.proofs.lemmas.Result.{IfOk-weaker}
 use Rattle.cs_files.specs.Response.{Ending, complaint}
 use Rattle.cs_ruling.proofs.order.refuse_gathered.Goals as goal
 
--- its complaint
 abbrev told : List ℕ → Ending
 told err = record { status = 3; out = []; err = err }
 

@@ -8,7 +8,7 @@ use Rattle.cs_serve.specs.Serve.{IsServedBy, Tellings, no_tellings}
 use Rattle.cs_serve.proofs.Turns.{followed}
 use Rattle.cs_serve.proofs.serving.serve_on.Goals as goal
 
--- what a clock has told, and how often a store of stamps has failed
+-- what a clock has answered, and how often a store of stamps has failed
 abbrev tellings : Telling → ℕ → Tellings
 tellings t failures = record { last = t.last; top = t.top; risen = t.risen; clock_failures = t.failures; stamp_failures = failures }
 

@@ -6,7 +6,6 @@ use Rattle.cs_windows.specs.Window.{reaches}
 use Rattle.cs_windows.specs.Windows.{starting}
 use Rattle.cs_windows.proofs.list.add_day.Given as goal
 
--- the windows of the blocks so far
 abbrev pub invariant-loop-block : goal.invariant-loop-block
 invariant-loop-block l =
     l.windows.items ≡ l.fn.windows.items ++ filter reaches (flat_map (λ minute. starting l.fn.day l.day_back minute 0 (map job_of l.occupied)) (range_with_len 0 (32 * l.block)))

@@ -5,7 +5,6 @@ use Rattle.cs_windows.specs.Window.{reaches}
 use Rattle.cs_windows.specs.Windows.{starting}
 use Rattle.cs_windows.proofs.list.starters_on.Given as goal
 
--- the windows of the starters so far, and those of the jobs that are left
 abbrev pub invariant-loop-job : goal.invariant-loop-job
 invariant-loop-job l = (minute : ℕ) → minute < 1440
     → begun minute l.starters.items ++ filter reaches (starting l.day l.day_back minute l.job (map job_of (drop l.job l.occupied)))

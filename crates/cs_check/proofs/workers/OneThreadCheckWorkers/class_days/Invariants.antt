@@ -5,6 +5,5 @@ use Rattle.cs_check.specs.ClassDays.{IsClassDay}
 use Rattle.cs_check.specs.declared.class_day.ClassDay.{ClassDay}
 use Rattle.cs_check.proofs.workers.OneThreadCheckWorkers.class_days.Given as goal
 
--- what each day of each class so far has
 abbrev pub invariant-loop-number : goal.invariant-loop-number
 invariant-loop-number l = (length l.days.items ≡ l.number) × ((n : ℕ) (day : ClassDay) → slice_get l.days.items n ≡ Some day → IsClassDay l.basis.plan.now (said l.basis.claim.now) n day)

@@ -14,7 +14,6 @@ use Rattle.cs_classes.specs.Likeness.{AreTimes, IsRow}
 use Rattle.cs_classes.proofs.Rows.{rows_of_answers}
 use Rattle.cs_classes.proofs.workers.SeveralThreadsWorkers.likenesses.Goals as goal
 
--- what is answered for a class, by the times of the jobs
 abbrev IsAnswer : List (List ℕ) → Class → Result (List Likeness) AllocError → Type 0
 IsAnswer times class answer = IfOk answer (λ row. (d : Declared) → AreTimes d times → IsRow d class row)
 

@@ -4,7 +4,6 @@ use Rattle.cs_schedule.proofs.NearMinutes.{minutes_skip}
 use Rattle.cs_schedule.proofs.Words.{minutes_in_next, minutes_out_next, minutes_end}
 use Rattle.cs_schedule.proofs.minute_set.MinutesIterator.next.Goals as goal
 
--- the minutes passed over are out
 passed : (c : goal.Then-is_set) → c.args.self.now ≡ minutes_from c.loop-self.self-inside.words c.near-minute.result
 passed c = sym c.loop-self.invariant.1 ∙ minutes_skip c.loop-self.self-inside.words c.loop-self.self-inside.next (c.near-minute.result - c.loop-self.self-inside.next) c.near-minute.result (omega arith) (omega arith) c.near-minute.ensures.out
 

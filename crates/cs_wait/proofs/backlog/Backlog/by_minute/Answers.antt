@@ -6,7 +6,6 @@ use Rattle.cs_wait.specs.Bounds.{IsBacklogFrom, at, decided}
 use Rattle.cs_wait.proofs.Pieces.{later_decide_nothing}
 use Rattle.cs_wait.proofs.backlog.Backlog.by_minute.Goals as goal
 
--- one more minute of the table
 one_more : (bounds : List ℕ) (f : ℕ → ℕ) (place minute bound : ℕ) → length bounds ≡ 1440 → minute < 1440 → place ≡ minute → ((m : ℕ) → m < minute → get_or bounds m 0 ≡ f m) → bound ≡ f minute
     → (m : ℕ) → m < minute + 1 → get_or (set bounds place bound) m 0 ≡ f m
 one_more bounds f place minute bound long lt here before is m below =
@@ -18,13 +17,11 @@ one_more bounds f place minute bound long lt here before is m below =
           subst (λ (k : ℕ). get_or (set bounds place bound) k 0 ≡ f m) at_place (get_or-set_same bounds place bound 0 (omega (arith, here, lt, long)) ∙ (is ∙ ap f (sym same)))
     ]
 
--- before a piece that begins later, the bound stays
 stands : (minute bound : ℕ) (rest : List Piece) → IsBacklogFrom (minute + 1) rest → fold (decided minute) (bound - (minute - minute)) rest ≡ bound
 stands minute bound rest k =
     let none : bound - (minute - minute) ≡ bound = omega arith in
     later_decide_nothing minute (minute + 1) (bound - (minute - minute)) rest (omega arith) k ∙ none
 
--- one off at the next minute, and one fewer to take off after it
 falls : (minute bound next t : ℕ) → next ≡ bound - 1 → minute + 1 ≤ t → next - (t - (minute + 1)) ≡ bound - (t - minute)
 falls minute bound next t e le = omega (arith, e, le)
 

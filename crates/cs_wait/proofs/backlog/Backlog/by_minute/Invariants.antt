@@ -2,7 +2,6 @@ use Rattle.std.proofs.Common.{◌≡◌, ℕ, ◌<◌, ◌≤◌, ◌-◌, drop,
 use Rattle.cs_wait.specs.Bounds.{IsBacklogFrom, at, decided}
 use Rattle.cs_wait.proofs.backlog.Backlog.by_minute.Given as goal
 
--- the bounds so far; what is left is in order, and decides the rest
 abbrev pub invariant-loop-minute : goal.invariant-loop-minute
 invariant-loop-minute l =
     (length l.bounds ≡ 1440)

@@ -6,7 +6,6 @@ use Rattle.cs_wait.specs.Bounds.{IsBacklog, at, following, following_from}
 use Rattle.cs_wait.proofs.Followed.{following_begins, following_follows, following_is_backlog}
 use Rattle.cs_wait.proofs.backlog.Backlog.following.Goals as goal
 
--- past the last minute no piece is left to write
 all_written : (items whole : List Piece) (minute bound shown : ℕ) (sums : List ℕ) → length sums ≡ 1440 → 1440 ≤ minute → items ++ following_from minute bound shown (drop minute sums) ≡ whole → items ≡ whole
 all_written items whole minute bound shown sums long past e =
     sym (append-nil items) ∙ (ap (λ (left : List ℕ). items ++ following_from minute bound shown left) (sym (drop_all minute sums (omega (arith, long, past)))) ∙ e)
@@ -20,7 +19,6 @@ of_pieces-requires c =
     let written = all_written c.loop-minute.list.items (following c.args.first c.by_minute-sums.result.now) _ _ _ _ c.by_minute-sums.ensures.long c.loop-minute-test.false c.loop-minute.invariant.1 in
     subst IsBacklog (sym written) (following_is_backlog c.args.first c.by_minute-sums.result.now (omega (arith, c.by_minute-sums.ensures.long)) c.requires)
 
--- the result is the definition's
 written : (c : goal.After-of_pieces) → c.of_pieces.result ≡ following c.args.first c.by_minute-sums.result.now
 written c = c.of_pieces.ensures ∙ all_written _ _ _ _ _ _ c.by_minute-sums.ensures.long c.loop-minute-test.false c.loop-minute.invariant.1
 

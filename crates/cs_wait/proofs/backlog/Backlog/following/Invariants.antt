@@ -3,7 +3,6 @@ use Rattle.cs_wait.specs.declared.backlog.TheConstants.{MAX_BACKLOG}
 use Rattle.cs_wait.specs.Bounds.{following, following_from}
 use Rattle.cs_wait.proofs.backlog.Backlog.following.Given as goal
 
--- the pieces so far, and then those of what arrives from this minute on
 abbrev pub invariant-loop-minute : goal.invariant-loop-minute
 invariant-loop-minute l =
     (l.bound ≤ MAX_BACKLOG)

@@ -22,65 +22,53 @@ fn entry_at(place: &Option<Place>) -> (Kind, Option<usize>) {
     }
 }
 
-/// The member of an entry that doesn't fit the tables, and what to do about it.
-fn advice(fault: DeclFault, kind: Kind, has_line: bool, has_jobs: bool) -> [&'static str; 2] {
-    let named = if has_line { "line" } else { "command" };
+/// The member of an entry that doesn't fit the tables; empty where that is the whole entry.
+fn member_of(fault: DeclFault, kind: Kind, has_line: bool) -> &'static str {
+    match (fault, kind) {
+        (DeclFault::OtherCommand, _) => "command",
+        (DeclFault::AmbiguousCommand, _) => "command",
+        (DeclFault::OtherSchedule, _) => "when",
+        (DeclFault::OtherParts, _) => "parts",
+        (DeclFault::NoSuchLine, Kind::Anacron) => "id",
+        (DeclFault::TwiceDeclared, Kind::Anacron) => "id",
+        (DeclFault::NoSuchLine, _) if has_line => "line",
+        (DeclFault::TwiceDeclared, _) if has_line => "line",
+        (DeclFault::NoSuchLine, _) => "command",
+        (DeclFault::TwiceDeclared, _) => "command",
+        _ => "",
+    }
+}
+
+/// What to do about an entry that doesn't fit the tables.
+fn advice(fault: DeclFault, kind: Kind, has_line: bool, has_jobs: bool) -> &'static str {
     match (fault, kind) {
         (DeclFault::NoSuchLine, Kind::Anacron) if !has_jobs => {
-            [
-                "id",
-                "no anacrontab with jobs is given: use --anacrontab FILE",
-            ]
+            "no anacrontab with jobs is given: use --anacrontab FILE"
         }
         (DeclFault::NoSuchLine, Kind::Anacron) => {
-            ["id", "no such job: correct \"id\", or remove the entry"]
+            "no such job: correct \"id\", or remove the entry"
         }
         (DeclFault::NoSuchLine, _) if has_line => {
-            [
-                named,
-                "this line has no command: correct it, or remove this entry",
-            ]
+            "this line has no command: correct it, or remove this entry"
         }
-        (DeclFault::NoSuchLine, _) => {
-            [
-                named,
-                "no line has this command: correct it, or remove this entry",
-            ]
-        }
-        (DeclFault::TwiceDeclared, _) => {
-            [
-                named,
-                "this line has an entry already: remove one of the two",
-            ]
-        }
+        (DeclFault::NoSuchLine, _) => "no line has this command: correct it, or remove this entry",
+        (DeclFault::TwiceDeclared, _) => "this line has an entry already: remove one of the two",
         (DeclFault::OtherCommand, _) => {
-            [
-                "command",
-                "the line has another command: correct \"line\" or \"command\"",
-            ]
+            "the line has another command: correct \"line\" or \"command\""
         }
         (DeclFault::OtherSchedule, _) => {
-            [
-                "when",
-                "the line has another schedule: correct \"line\" or \"when\"",
-            ]
+            "the line has another schedule: correct \"line\" or \"when\""
         }
         (DeclFault::AmbiguousCommand, _) => {
-            [
-                "command",
-                "more than one line has it: add the \"line\" that is meant",
-            ]
+            "more than one line has it: add the \"line\" that is meant"
         }
         (DeclFault::OtherParts, _) => {
-            [
-                "parts",
-                "the line has other parts: correct them, as 'cronsafe draft --update' does",
-            ]
+            "the line has other parts: correct them, as 'cronsafe draft --update' does"
         }
-        (DeclFault::RebootLine, _) => ["", "put this line of the crontab into \"left_out\""],
-        (DeclFault::Undeclared, Kind::Anacron) => ["", "add an entry for this job"],
-        (DeclFault::Undeclared, _) => ["", "add an entry for this line of the crontab"],
-        _ => ["", "see 'cronsafe explain'"],
+        (DeclFault::RebootLine, _) => "put this line of the crontab into \"left_out\"",
+        (DeclFault::Undeclared, Kind::Anacron) => "add an entry for this job",
+        (DeclFault::Undeclared, _) => "add an entry for this line of the crontab",
+        _ => "see 'cronsafe explain'",
     }
 }
 
@@ -134,7 +122,8 @@ fn find_fault(
     }
     let (kind, index) = entry_at(place);
     let has_line = declarations.has_line(kind, index);
-    let [member, why] = advice(fault, kind, has_line, has_jobs);
+    let why = advice(fault, kind, has_line, has_jobs);
+    let member = member_of(fault, kind, has_line);
     let span = declarations.place_of(kind, index, member);
     findings.fault(span, format_args!("{name}: {why}"))
 }

@@ -38,7 +38,7 @@ fn text_of(alloc: Global, log: &Log, factor: Factor) -> Result<Vec<u8>, AllocErr
     for job in log.jobs() {
         let (front, what) = match (max_of_job(&job.evidence, factor), job.evidence.longest_open) {
             (Some(max), _) => ("", format!(in alloc; " {max}\n")?),
-            (None, Some(run)) if log.tells_ends(job) => {
+            (None, Some(run)) if log.logs_ends(job) => {
                 let minutes = run.seconds / 60 + 1;
                 let what = ": a run without an end may have taken";
                 ("# warning: ", format!(in alloc; "{what} {minutes} min\n")?)

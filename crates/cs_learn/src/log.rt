@@ -77,8 +77,9 @@ impl Log {
         self.jobs.as_slice()
     }
 
-    /// Whether the logs would have ends of the job's runs: anacron always logs them.
-    pub(crate) fn tells_ends(&self, job: &Job) -> bool {
+    /// Whether the logs would show the end of a run of the job: anacron logs each end, and cron does
+    /// where the logs have any.
+    pub(crate) fn logs_ends(&self, job: &Job) -> bool {
         job.is_anacron() || !self.tally.has_no_ends()
     }
 

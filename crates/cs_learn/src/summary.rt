@@ -303,7 +303,7 @@ fn push_notes(
 ) -> Done {
     let jobs = log.jobs();
     for (place, job) in jobs.iter().enumerate() {
-        if log.tells_ends(job) {
+        if log.logs_ends(job) {
             push_unended(alloc, text, job)?;
         }
         if job.evidence.count > 0 && max_of_job(&job.evidence, factor).is_none() {

@@ -1,4 +1,4 @@
-//! What is odd in a line of a crontab by itself: valid, but seldom meant.
+//! What is odd in a line of a crontab by itself: valid, but probably a mistake.
 use cs_diagnostics::{Span, is_word_line, word_after, words};
 use cs_table::text::{digits, is_among, is_blank, trim_end};
 

@@ -1,6 +1,7 @@
 //! What a line of a daemon's log reports, after its time.
 use crate::words::{behind, is_word, number, split};
 use cs_civil::read_minute;
+use std::alloc::{AllocError, Global};
 
 /// What a line reports of a run.
 #[derive(Clone, Copy)]
@@ -26,7 +27,7 @@ pub struct RunTold<'t> {
     pub verb: Verb,
     /// The number of its line, if it is of the crontab.
     pub line: Option<u64>,
-    /// The digits of that, or the identifier of its job.
+    /// The digits of that, or the identifier of its job as the log shows it.
     pub name: &'t [u8],
     /// The minute in which it was due, or that in which a job started, since 1970-01-01 00:00.
     pub at: u64,
@@ -73,6 +74,34 @@ pub fn told(text: &[u8]) -> Option<RunTold<'_>> {
         name,
         at,
     })
+}
+
+/// The byte that `\xNN` at the front stands for, and what follows it.
+fn escaped(text: &[u8]) -> Option<(u8, &[u8])> {
+    let [b'\\', b'x', high, low, rest @ ..] = text else {
+        return None;
+    };
+    let high = char::from(*high).to_digit(16)?;
+    let low = char::from(*low).to_digit(16)?;
+    Some((u8::try_from(16 * high + low).ok()?, rest))
+}
+
+/// The bytes of an identifier that a log shows with `\xNN` for some of them.
+pub(crate) fn identifier(alloc: Global, shown: &[u8]) -> Result<Vec<u8>, AllocError> {
+    let mut bytes = Vec::new(alloc);
+    let mut rest = shown;
+    for _ in 0..shown.len() {
+        let [byte, others @ ..] = rest else {
+            break;
+        };
+        let (byte, others) = match escaped(rest) {
+            Some(found) => found,
+            None => (*byte, others),
+        };
+        bytes.push(byte)?;
+        rest = others;
+    }
+    Ok(bytes)
 }
 
 /// The minutes of an outage: the last one before it, and the first one after it.

@@ -2,7 +2,7 @@
 use crate::entry::{Entry, Turn};
 use crate::moment::Moment;
 use crate::stamp::time_and_rest;
-use crate::told::{RunTold, Verb, begins, is_end, outage, told};
+use crate::told::{RunTold, Verb, begins, identifier, is_end, outage, told};
 use cs_civil::{Bytes, Minute, date_text};
 use indexmap::IndexMap;
 use std::alloc::{AllocError, Global};
@@ -40,6 +40,13 @@ fn by_clock(offset: i16, second: u64) -> u64 {
         second.saturating_sub(ahead)
     } else {
         second.saturating_add(ahead)
+    }
+}
+
+fn kind_of(line: Option<u64>) -> &'static str {
+    match line {
+        Some(_) => "line ",
+        None => "job ",
     }
 }
 
@@ -126,7 +133,8 @@ impl Trace {
     /// if it is an anacron job's.
     fn start(&mut self, alloc: Global, run: RunTold<'_>) -> Result<(), AllocError> {
         let Some(line) = run.line else {
-            let words: &[&[u8]] = &[b"catch ", run.name, b"\n"];
+            let name = identifier(alloc, run.name)?;
+            let words: &[&[u8]] = &[b"catch ", name.as_slice(), b"\n"];
             return self.put_next(alloc, run.at, Turn::Follows, words);
         };
         let waits = match self.waiting.get(&(line, run.at)) {
@@ -145,12 +153,9 @@ impl Trace {
     fn end(&mut self, alloc: Global, second: u64, run: RunTold<'_>) -> Result<(), AllocError> {
         let minute = self.settled_minute(second);
         self.reach(alloc, minute)?;
-        let kind: &[u8] = if run.line.is_some() {
-            b"end line "
-        } else {
-            b"end job "
-        };
-        let words: &[&[u8]] = &[kind, run.name, b" ", &date(run.at), b"\n"];
+        let kind = kind_of(run.line).as_bytes();
+        let name = identifier(alloc, run.name)?;
+        let words: &[&[u8]] = &[b"end ", kind, name.as_slice(), b" ", &date(run.at), b"\n"];
         self.put_next(alloc, minute, Turn::Follows, words)?;
         self.freed = minute;
         Ok(())
@@ -178,18 +183,20 @@ impl Trace {
     }
 
     /// Takes a report of the daemon: in an outage it is down from the first minute to the second,
-    /// and one that starts nothing more goes down. Each other line is ignored.
+    /// and one that starts nothing more goes down. Of each other line only the minute counts.
     fn other(&mut self, alloc: Global, second: u64, text: &[u8]) -> Result<(), AllocError> {
         if let Some((from, to)) = outage(text) {
             self.go(alloc, from)?;
             return self.come(alloc, to);
         }
+        let minute = self.settled_minute(second);
         if is_end(text) && !self.is_over {
-            let minute = self.settled_minute(second);
             self.go(alloc, minute)?;
             self.is_over = true;
+            return Ok(());
         }
-        Ok(())
+        self.reach(alloc, minute)?;
+        self.put_next(alloc, minute, Turn::Follows, &[])
     }
 
     /// Takes the next line, without its newline. A daemon that begins comes up in that minute, and

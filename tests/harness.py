@@ -17,6 +17,7 @@ from collections import Counter
 from concurrent.futures import ThreadPoolExecutor
 from contextlib import contextmanager
 from functools import cache
+from inspect import getfullargspec, isfunction
 from pathlib import Path
 
 # A draft tells the offset of the time zone, and `gather` to which tables others may write.
@@ -81,6 +82,12 @@ def words_of(doc, has_names=True, **options):
             if not it.is_file() or not os.access(it, os.X_OK):
                 raise BadUse(f"there is no program {it}: ./cronsafe {word} builds it")
     return asked
+
+
+def tests_in(names, word):
+    """Returns the functions of a module, by its names, that take one argument, which is so called."""
+    own = [it for it in names.values() if isfunction(it) and it.__globals__ is names]
+    return [it for it in own if getfullargspec(it)[:3] == ([word], None, None)]
 
 
 def chosen(tests, names):

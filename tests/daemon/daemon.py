@@ -1,10 +1,14 @@
 """The built program as a process, over the files of one test."""
+import calendar
+import hashlib
 import json
 import os
 import re
 import signal
 import subprocess
 import time
+from contextlib import contextmanager
+from pathlib import Path
 
 from harness import Fault, called, itself, wanted
 
@@ -17,6 +21,7 @@ LAST_SECOND = 40
 # what `reload` says where an answer takes long
 WAITED = "cronsafe: waiting for the daemon's answer\n"
 INPUT = "what the daemon itself is given to read\n"
+UNUSED = (2, "", "cronsafe: no daemon uses stamps\n")
 
 
 def minute_now():
@@ -38,6 +43,33 @@ def date_text(minute):
 
 def stamp_text(minute):
     return time.strftime("%Y%m%d\n", time.gmtime(60 * minute))
+
+
+def moment_text(seconds):
+    return time.strftime("%Y-%m-%dT%H:%M:%SZ", time.gmtime(seconds))
+
+
+def seconds_of(moment):
+    """Returns the seconds since 1970 of a moment such as 2024-09-13T23:30:01Z."""
+    return calendar.timegm(time.strptime(moment, "%Y-%m-%dT%H:%M:%SZ"))
+
+
+def minute_of(text):
+    """Returns the minute since 1970 of a text as `2024-09-13 23:30`."""
+    return calendar.timegm(time.strptime(text, "%Y-%m-%d %H:%M")) // 60
+
+
+def moments_and_texts(lines):
+    """Returns the seconds since 1970 at the front of lines of a log, and what is behind them."""
+    found = [re.fullmatch(r"(\d{4}-\d\d-\d\dT\d\d:\d\d:\d\dZ) (.+)", it) for it in lines]
+    wanted("lines with times", True, all(found))
+    return [seconds_of(it[1]) for it in found], [it[2] for it in found]
+
+
+def sections_of(name):
+    """Returns the texts of a file here, each of which stands below its name."""
+    text = Path(__file__).with_name(name).read_text("utf-8")
+    return dict(re.findall(r"(?ms)^=== (.*?)\n(.*?)(?=^=== |\Z)", text))
 
 
 def without_note(text):
@@ -62,12 +94,23 @@ class Room:
         (self.folder / name).write_bytes(text if isinstance(text, bytes) else text.encode())
 
     def read(self, name):
-        """Returns the text of a file, '' for none, or of each in a folder but a daemon's state."""
+        """Returns the text of a file, '' for none, or of each in a folder but a daemon's own."""
         path = self.folder / name
         if path.is_dir():
-            inside = (it for it in path.iterdir() if not it.name.startswith("cronsafe state"))
+            own = ("cronsafe state", "cronsafe lock", "cronsafe runs")
+            inside = (it for it in path.iterdir() if not it.name.startswith(own))
             return {it.name: self.read(it) for it in inside}
         return without_note(path.read_text("utf-8", "replace")) if path.is_file() else ""
+
+    def texts(self):
+        """Returns what is behind the times in the log."""
+        return moments_and_texts(self.read("log").split("\n")[:-1])[1]
+
+    def digests(self):
+        """Returns the lines of a log that tell the digests of the files."""
+        files = {"table": "crontab", "declarations": "declarations", "certificate": "certificate"}
+        texts = {name: (self.folder / file).read_bytes() for name, file in files.items()}
+        return [f"{name} sha256 {hashlib.sha256(it).hexdigest()}" for name, it in texts.items()]
 
     def holds(self, lines=None, **texts):
         """Holds files, the folder of stamps, and what was printed against texts and lines.
@@ -102,6 +145,22 @@ class Room:
         """Has `stop` end the daemon."""
         wanted("stop", (0, ""), self.ask("stop", "stamps")[:2])
         self.ends(0)
+
+    def stop_now(self):
+        """Has `stop --now` ask the daemon to end."""
+        wanted("stop --now", (0, "", ""), self.ask("stop", "stamps", "--now"))
+
+    def state(self):
+        """Returns the state that `status --json` prints."""
+        return json.loads(self.ask("status", "stamps", "--json")[1])
+
+    def look_at_nobody(self):
+        """Holds what `status` says where no daemon goes on; returns the lines of the last state."""
+        status, out, err = self.ask("status", "stamps")
+        wanted("status of nobody", UNUSED, (status, "", err))
+        age, *lines = out.splitlines()
+        wanted("age of the state", True, re.fullmatch(r"last state, \d+ min old", age) is not None)
+        return lines
 
     def take_tables(self, declared, crontab="", anacrontab=None):
         """Takes tables and declarations for the calls to come."""
@@ -183,6 +242,14 @@ class Room:
         what = f"the line '{line}' {times} times"
         self.wait_for(what, lambda: self.read("printed").splitlines().count(line) >= times, seconds)
 
+    def wait_for_logged(self, *texts, seconds=SOON):
+        """Waits until the log holds these texts."""
+        for text in texts:
+            self.wait_for(f"'{text}' in the log", lambda it=text: it in self.read("log"), seconds)
+
+    def wait_for_file(self, name):
+        self.wait_for(f"a file {name}", (self.folder / name).is_file)
+
     def ends(self, status, seconds=SOON):
         """Waits for the daemon to end by itself, with this status."""
         self.wait_for("its end", lambda: self.status() is not None, seconds)
@@ -200,9 +267,23 @@ class Room:
         # unlike `send_signal`, without a look whether it has ended
         os.kill(self.daemons[-1].pid, number)
 
-    def end(self):
-        self.send(signal.SIGTERM)
-        self.ends(-signal.SIGTERM)
+    def end(self, number=signal.SIGTERM):
+        self.send(number)
+        self.ends(-number)
+
+    @contextmanager
+    def another(self, name):
+        """Gives a room of this name with the same tables, in whose faults it stands."""
+        own = Room(self.program, self.folder / name, self.libraries)
+        own.options = self.options
+        for file in ("crontab", "anacrontab", "declarations", "certificate"):
+            own.write(file, self.read(file))
+        try:
+            yield own
+        except Fault as fault:
+            raise Fault(f"{name}: {fault}") from None
+        finally:
+            own.close()
 
     def close(self):
         """Ends what is left of the daemons and their jobs."""

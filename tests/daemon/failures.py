@@ -4,7 +4,7 @@ from concurrent.futures import ThreadPoolExecutor
 
 from harness import Fault, failing, wanted
 
-from daemon import Room, date_text, early_minute, minute_now, runs, stamp_text
+from daemon import date_text, early_minute, minute_now, runs, stamp_text
 
 # how many daemons go on side by side
 AT_ONCE = 12
@@ -22,13 +22,9 @@ FUNCTIONS = {
 
 def look_at_call(room, name, which):
     """Runs a daemon of which one call of a function fails; returns whether it made that call."""
-    folder = room.folder / f"{name} {which}"
-    own = Room(room.program, folder, room.libraries)
-    own.take_tables(DECLARED, "", ANACRONTAB)
-    own.write("certificate", room.read("certificate"))
-    failed, day = folder / "failed", early_minute()
-    variables = failing(room.libraries / "failing.so", name, which, FUNCTIONS[name], failed)
-    try:
+    with room.another(f"call {which} of {name}") as own:
+        failed, day = own.folder / "failed", early_minute()
+        variables = failing(room.libraries / "failing.so", name, which, FUNCTIONS[name], failed)
         own.start(own.words("--minutes", "0"), **variables)
         own.wait_for("its end", lambda: own.status() is not None)
         status, said = own.status(), own.read("said")
@@ -38,10 +34,6 @@ def look_at_call(room, name, which):
             raise Fault(f"status {status}; {own.told()}")
         look_at_log(own.read("printed").splitlines(), day, len(own.read("ran").split()))
         look_at_second_call(own, day)
-    except Fault as fault:
-        raise Fault(f"call {which} of {name}: {fault}") from None
-    finally:
-        own.close()
     return failed.exists()
 
 

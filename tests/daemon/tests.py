@@ -1,22 +1,24 @@
 """The tests of `run`. A job of an anacrontab that has no stamp is started at once, so that tests
 with such jobs alone take some seconds; a command of a crontab waits for its minute.
 """
-import calendar
 import fcntl
-import hashlib
 import json
 import os
 import pwd
 import re
 import signal
+import socket
+import subprocess
 import time
 from concurrent.futures import ThreadPoolExecutor
+from contextlib import contextmanager
 from pathlib import Path
 
 from harness import Fault, wanted, without_shown
 
 import failures
-from daemon import SOON, WAITED, Room, date_text, early_minute, minute_now, runs, stamp_text
+from daemon import SOON, UNUSED, WAITED, date_text, early_minute, minute_now, minute_of
+from daemon import moment_text, moments_and_texts, runs, seconds_of, sections_of, stamp_text
 
 MINUTE = 60
 DAY = 1440
@@ -29,13 +31,8 @@ HELD = f"{UNTIL.format('done')}; echo x >>ran"
 # a job of an anacrontab that says that it ran
 ONE_JOB = "7 0 a echo x >>ran\n"
 ONCE = ("--minutes", "0")
-UNUSED = (2, "", "cronsafe: no daemon uses stamps\n")
-# What is told beside a refusal that the certificate of other files would have.
-STALE = "note: the tables or declarations may have changed since the certificate was made: "
-STALE += "cronsafe make TABLE DECLS makes a new one\n"
-# the table of `jobs_are_run`, above and below its shell
-TABLE = Path(__file__).with_name("table").read_text("utf-8")
-LAST = '* * * * * echo "$FIRST,${LATER-none},$SHELL" >>others\n'
+NO_COUNTS = "skipped 0, overruns 0, not started 0, outages 0, stamps not written 0, missed 0"
+TEXTS = sections_of("tables")
 
 
 def declared(capacity, lines=(), identifiers=(), groups=(), offset=0, left_out=(), **terms):
@@ -51,20 +48,6 @@ def declared(capacity, lines=(), identifiers=(), groups=(), offset=0, left_out=(
         "cron": [{"line": it, "max": MAX, **terms.get(f"line{it}", {})} for it in lines],
         "anacron": [{"id": it, "max": MAX, **terms.get(it, {})} for it in identifiers],
     }
-
-
-def moments_and_texts(lines):
-    """Returns the seconds since 1970 at the front of lines of a log, and what is behind them."""
-    found = [re.fullmatch(r"(\d{4}-\d\d-\d\dT\d\d:\d\d:\d\dZ) (.+)", it) for it in lines]
-    wanted("lines with times", True, all(found))
-    return [seconds_of(it[1]) for it in found], [it[2] for it in found]
-
-
-def digest_lines(room):
-    """Returns the lines of a log that tell the digests of the files."""
-    files = {"table": "crontab", "declarations": "declarations", "certificate": "certificate"}
-    texts = {name: (room.folder / file).read_bytes() for name, file in files.items()}
-    return [f"{name} sha256 {hashlib.sha256(it).hexdigest()}" for name, it in texts.items()]
 
 
 def job_lines(table):
@@ -84,7 +67,7 @@ def begin(room, *options, **paths):
     """Starts a daemon of a plan without a job, and waits until it tells its state."""
     room.take(declared(1), "")
     room.start(room.words(*options, **paths), given="")
-    room.wait_for("a state", lambda: (room.folder / "stamps" / "cronsafe state").is_file())
+    room.wait_for_file("stamps/cronsafe state")
 
 
 def begin_job(room, command):
@@ -100,6 +83,30 @@ def due_at(minute):
     return f"{minute % 60} {minute // 60 % 24} * * *"
 
 
+def refuses(room, said, *options, folder="stamps", **texts):
+    """Runs a daemon that ends at once with status 6 and this message, and does nothing else."""
+    room.run(*ONCE, *options, status=6, seconds=SOON, stamps=folder)
+    room.holds(**{"printed": "", "said": f"cronsafe: {said}\n", "ran": "", "stamps": {}, **texts})
+
+
+def in_place(path, *ways):
+    """Yields while at a path there is what each of these ways makes of it, or a link to such a path."""
+    for way in ways:
+        way(path) if callable(way) else path.symlink_to(way)
+        yield
+        path.rmdir() if path.is_dir() else path.unlink()
+
+
+@contextmanager
+def locked(room):
+    """Locks the folder of stamps, as a daemon of an earlier version does."""
+    folder = os.open(room.folder / "stamps", os.O_RDONLY)
+    fcntl.flock(folder, fcntl.LOCK_EX)
+    yield
+    fcntl.flock(folder, fcntl.LOCK_UN)  # a child that another test forks may hold the descriptor still
+    os.close(folder)
+
+
 def jobs_are_run(room):
     """Minutely commands and a job of an anacrontab, at an offset, with settings and inputs."""
     shell = room.folder / "shell"
@@ -107,30 +114,28 @@ def jobs_are_run(room):
     shell.chmod(0o755)
     anacrontab = 'KIND=anacron\n7 0 a.b echo "$KIND %" >own; cat >>own\n'
     lines, left_out = (3, 4, 5, 6, 13), (7, 8)
-    table = f"{TABLE}SHELL = {shell}\n{LAST}"
+    table = TEXTS["jobs"].replace("OWN_SHELL", str(shell))
     room.take(declared(11, lines, ["a.b"], offset=90, left_out=left_out), table, anacrontab)
     first = early_minute() + 90
-    room.run("--minutes", "3", seconds=4 * MINUTE)
+    room.run("--minutes", "2", seconds=4 * MINUTE)
     minutes = [first + 1, first + 2]
     names = [f"line {it} due {date_text(minute)}" for it in lines for minute in minutes]
     started = [int(it) // MINUTE + 90 for it in room.read("times").split()]
     wanted("minutes of the runs", minutes, started)
-    room.holds(
-        runs(f"job a.b at {date_text(first)}", *names),
-        said="warning: CRON_TZ on line 9 of the crontab has no effect\n"
-        "note: line 7 is left out of the plan\nnote: line 8 is left out of the plan\n",
-        settings="of two  words ,none,/bin/sh,inherited\n" * 2,
-        input="one\ntwo%:\n" * 2,
-        nothing=":\n" * 2,
-        others=f"once more,,{shell}\n" * 2,
-        words=f'{shell} -c echo "$FIRST,${{LATER-none}},$SHELL" >>others\n' * 2,
-        own="anacron %\n",
-        stamps={"a.b": stamp_text(first)},
-    )
+    files = ("said", "settings", "input", "nothing", "others", "words")
+    files = {it: TEXTS[f"{it} of the jobs"].replace("OWN_SHELL", str(shell)) for it in files}
+    lines, stamps = runs(f"job a.b at {date_text(first)}", *names), {"a.b": stamp_text(first)}
+    room.holds(lines, own="anacron %\n", stamps=stamps, **files)
 
 
-def no_minutes(room):
-    """A clock that stops at once, with the table on standard input."""
+def table_of_standard_input(room):
+    """A clock that stops at once, with the table on standard input; and `reload` of such a daemon.
+
+    For one that takes an empty table then.
+    """
+    begin(room, table="-")
+    wanted("reload", (6, "", "cronsafe: can't read standard input again\n"), room.reload())
+    room.stop()
     table, stamp = "* * * * * echo x >>ran\n", stamp_text(minute_now() - DAY)
     room.take(declared(3, [1], ["a"]), table, ONE_JOB)
     room.write("stamps/a", stamp)
@@ -138,68 +143,190 @@ def no_minutes(room):
     room.holds(printed="", said="", ran="", stamps={"a": stamp})
 
 
-def test_of_stamp(name, stamp, is_run, *more):
-    """Returns a test of a job with a stamp: so many days old, of another text, or none."""
-
-    def test(room):
+def stamps_of_a_job(room):
+    """A job with a stamp: none, so many days old, to come, or of another text; each time twice."""
+    rows = [(None, True), (6, False), (7, True), (-1, True), ("", True)]
+    for stamp, is_run, *more in *rows, ("yesterday\n", True, "stamp not read a"):
         minute, run = take_job(room)
         text = stamp_text(minute - stamp * DAY) if isinstance(stamp, int) else stamp
         if text is not None:
             room.write("stamps/a", text)
+        room.write("ran", "")
         left = {"a": stamp_text(minute) if is_run else text}
         for lines in [*more, *(runs(run) if is_run else [])], []:
             room.run(*ONCE)
             room.holds(lines, ran="x\n" if is_run else "", stamps=left)
-
-    test.__name__ = name
-    return test
+        (room.folder / "stamps/a").unlink()
 
 
-def unwritable_folder(room):
-    """A folder of stamps in which nothing can be written."""
-    room.take(declared(1, [], ["not-written"]), "", "1 0 not-written echo x >>ran\n")
-    run = f"job not-written at {date_text(early_minute())}"
+def refused_folders(room):
+    """Folders of stamps that are refused: nothing can be written to them, or other users can write
+    to them, or they have an old request, or in place of a list of runs a folder, a pipe or a link.
+    """
+    take_job(room)
     # (not even the superuser makes files there)
-    room.run(*ONCE, stamps="/proc", seconds=SOON)
-    lost = "stamp not written not-written"
-    # one try at the end, and one more where the run had ended at the clock's second answer
-    times = min(max(room.read("printed").splitlines().count(lost), 1), 2)
-    room.holds([*runs(run), *[lost] * times], ran="x\n")
+    refuses(room, "can't lock /proc", folder="/proc")
+    folder = room.folder / "stamps"
+    for mode in (0o777, 0o1777, 0o702):
+        folder.chmod(mode)
+        refuses(room, "other users can write to stamps")
+    folder.chmod(0o775)
+    for _ in in_place(folder / "cronsafe stop", Path.mkdir):
+        refuses(room, "can't remove old requests from stamps", stamps={"cronsafe stop": {}})
+    for _ in in_place(folder / "cronsafe runs", Path.mkdir, os.mkfifo, "none"):
+        refuses(room, "can't read the list of runs in stamps")
+    room.run(*ONCE, seconds=SOON)
+    room.holds(said="", ran="x\n")
+
+
+def kinds_of_lock(room):
+    """What stands in the place of a folder's lock: nothing, its file, links, a pipe, a folder."""
+    take_job(room)
+    lock, victim = room.folder / "stamps/cronsafe lock", room.folder / "victim"
+    room.run(*ONCE, seconds=SOON)
+    wanted("mode of the lock", 0o600, lock.stat().st_mode & 0o777)
+    number = lock.stat().st_ino
+    room.run(*ONCE, seconds=SOON)
+    wanted("number of the lock", number, lock.stat().st_ino)
+    wanted("stop of nobody", UNUSED, room.ask("stop", "stamps"))
+    lock.unlink()
+    wanted("stop without a lock", UNUSED, room.ask("stop", "stamps"))
+    wanted("a lock that nobody has made", False, lock.exists())
+    victim.touch()
+    left = {"ran": "x\n", "victim": "", "nowhere": "", "stamps": room.read("stamps")}
+    for _ in in_place(lock, victim, room.folder / "nowhere", os.mkfifo, Path.mkdir):
+        refuses(room, "can't lock stamps", **left)
+
+
+def daemon_of_before(room):
+    """A daemon of an earlier version, which locks the folder alone."""
+    take_job(room)
+    with locked(room):
+        refuses(room, "another daemon uses stamps")
+        (room.folder / "stamps/cronsafe lock").unlink()
+        room.stop_now()
+    wanted("stop of nobody", UNUSED, room.ask("stop", "stamps"))
+
+
+def lock_of_a_stranger(room):
+    """Another process that locks the folder itself, as one of another user that can read it could.
+
+    It waits for that while a daemon goes on. For a `stop` that waits for it.
+    """
+    begin(room)
+    with subprocess.Popen(["flock", "-F", room.folder / "stamps", "sleep", "60"]) as stranger:
+        try:
+            room.stop()
+            wanted("stop of nobody", UNUSED, room.ask("stop", "stamps"))
+            wanted("reload of nobody", UNUSED, room.reload())
+            room.look_at_nobody()
+        finally:
+            stranger.kill()
+
+
+def folder_taken_away(room):
+    """A folder of stamps, or its lock, that is moved away or removed. For two daemons at once."""
+    folder, aside = room.folder / "stamps", room.folder / "aside"
+    lock = folder / "cronsafe lock"
+    for take_away in (
+        lambda: folder.rename(aside),
+        lambda: (folder.rename(aside), folder.mkdir()),
+        lambda: (folder.rename(aside), folder.symlink_to(aside / "none")),
+        lock.unlink,
+        lambda: (lock.unlink(), lock.touch()),
+    ):
+        (folder / "cronsafe state").unlink(missing_ok=True)
+        begin(room, "--log", "log")
+        take_away()
+        room.ends(6)
+        why = "the folder of stamps was taken away\n"
+        room.holds(said=f"cronsafe: {why}")
+        wanted("reason in the log", 1, room.read("log").count(f" {why}"))
+        if aside.exists():
+            wanted("what is in the new folder", [], list(folder.iterdir()) if folder.is_dir() else [])
+            folder.unlink() if folder.is_symlink() else folder.is_dir() and folder.rmdir()
+            aside.rename(folder)
+        (room.folder / "log").unlink()
+
+
+def stamp_of_a_folder_taken_away(room):
+    """A job that ends after another folder has come. For a stamp that is written there."""
+    begin_job(room, HELD)
+    folder = room.folder / "stamps"
+    folder.rename(room.folder / "aside")
+    folder.mkdir()
+    time.sleep(3)
+    room.write("done", "")
+    room.ends(6)
+    wanted("lost stamps", True, "stamp not written a" in room.read("printed").splitlines())
+    wanted("what is in the new folder", {}, room.read("stamps"))
+
+
+def kinds_of_log(room):
+    """What is no log: a pipe, a socket, a folder, a device. For a daemon that waits for a reader."""
+    take_job(room)
+    os.mkfifo(room.folder / "pipe")
+    with socket.socket(socket.AF_UNIX) as there:
+        others = ("/dev/full", "/dev/zero", "pipe", lambda it: there.bind(str(it)))
+        for _ in in_place(room.folder / "log", os.mkfifo, Path.mkdir, *others):
+            refuses(room, "can't write log", "--log", "log")
+    (room.folder / "log").symlink_to("/dev/null")
+    room.run(*ONCE, "--log", "log", seconds=SOON)
+    room.holds(printed="", said="", ran="x\n")
+
+
+def reloads_at_once(room):
+    """Eight calls of `reload` at once, four times. For one that is told another answer."""
+    begin(room)
+    with ThreadPoolExecutor(8) as pool:
+        for status, table in [(0, "")] * 3 + [(3, "24 * * *\n")]:
+            room.write("crontab", table)
+            answers = set(pool.map(lambda _: room.reload(), range(8)))
+            wanted("answers and statuses", (1, {status}), (len(answers), {it[0] for it in answers}))
+            wanted("what is said", status != 0, any(out + err for _, out, err in answers))
+    room.stop()
 
 
 def unwritable_stamps(room):
-    """A folder that stands in the place of a stamp file, and is taken away later."""
+    """A folder that stands in the place of a stamp file: while `stop` waits, and till it is taken away.
+
+    For a `stop` with status 0.
+    """
     in_the_way = room.folder / "stamps/a"
     in_the_way.mkdir()
-    minute, run = take_job(room)
+    _, run = begin_job(room, "true")
+    room.wait_for_line(f"ended {run} status 0")
+    room.wait_for_line("stamp not written a")
+    wanted("stop", (1, "", "cronsafe: stamps not written: a\n"), room.ask("stop", "stamps"))
+    room.ends(0)
     since = int(time.time())
-    room.start(room.words())
+    minute, run = begin_job(room, "true")
     room.wait_for_line("stamp not written a", 2 * SOON, times=3)
     state = written_state(room, lambda it: it["stamps_not_written"] > 2)
-    at = seconds_of(state["stamp_fault_at"])
-    wanted("a time between", True, since <= at <= time.time())
+    wanted("a time between", True, since <= seconds_of(state["stamp_fault_at"]) <= time.time())
     in_the_way.rmdir()
-    room.wait_for("the stamp", in_the_way.is_file)
+    room.wait_for_file("stamps/a")
     written = os.stat(in_the_way).st_mtime_ns
     tries = room.read("printed").splitlines().count("stamp not written a")
     time.sleep(3)
-    room.end()
+    room.stop()
     lines = [*runs(run), "stamp not read a", *["stamp not written a"] * tries]
     room.holds(lines, stamps={"a": stamp_text(minute)})
     wanted("time of the stamp file", written, os.stat(in_the_way).st_mtime_ns)
+    lock = room.read("stamps/cronsafe lock")
+    wanted("the lock", ("all stamps are written", 4_096), (lock.rstrip(" "), len(lock)))
 
 
 def second_daemon(room):
     """A second daemon on a folder of stamps, while the first goes on and after it was killed."""
-    minute, _ = begin_job(room, "sleep 100; echo x >>ran")
+    minute, run = begin_job(room, "sleep 100; echo x >>ran")
     first = room.daemons[-1]
-    room.run(*ONCE, status=6, seconds=SOON)
-    room.holds(printed="", said="cronsafe: another daemon uses stamps\n", stamps={})
-    os.kill(first.pid, signal.SIGKILL)
-    first.wait()
+    refuses(room, "another daemon uses stamps")
+    os.killpg(first.pid, signal.SIGKILL)
+    os.waitid(os.P_PID, first.pid, os.WEXITED | os.WNOWAIT)
     room.write("stamps/a", stamp_text(minute))
     room.run(*ONCE, seconds=SOON)
-    room.holds(printed="", said="", ran="")
+    room.holds(printed=f"cut off {run}\n", said="", ran="")
 
 
 def stopped(room):
@@ -213,11 +340,54 @@ def stopped(room):
     room.holds(stamps={"a": stamp_text(minute)})
 
 
+def overrun_while_it_stops(room):
+    """A run that becomes late after `stop --now`. For a daemon that looks at no clock by then."""
+    minute, run = take_job(room, HELD, max=1)
+    room.step("--log", "log", "--on-overrun", 'echo "$CRONSAFE_RUN" >>late')
+    room.wait_for_logged(f"started {run}")
+    room.stop_now()
+    room.wait_for_logged("asked to stop")
+    for passed in (1, 2):
+        room.set_clock(MINUTE * (minute + passed) + 5)
+        room.wait_for("the hook", lambda: room.read("late") == f"{run}\n")
+        time.sleep(3)
+    state = written_state(room, lambda it: it["overruns"])
+    told = state["overruns"], state["stopping"], state["running"][0]["late"]
+    wanted("state", (1, True, True), told)
+    room.write("done", "")
+    room.ends(0)
+    texts = room.texts()
+    kinds = [" ".join(it.split()[:2]) for it in texts[texts.index("asked to stop") :]]
+    wanted("lines", ["asked to", "overrun job", "outside of", "ended job", "stopped"], kinds)
+
+
+def stopped_in_a_jump(room):
+    """`stop` in the second in which the clock skips minutes. For a log that doesn't say so."""
+    room.take(declared(2, [1]), "* * * * * echo x >>ran\n")
+    for jump in (9, 18, 27, 36):
+        for name in ("log", "stamps/cronsafe state"):
+            (room.folder / name).unlink(missing_ok=True)
+        room.step("--log", "log")
+        room.wait_for_file("stamps/cronsafe state")
+        room.send(signal.SIGSTOP)
+        room.stop_now()
+        room.set_clock(MINUTE * (minute_now() + jump) + 5)
+        room.send(signal.SIGCONT)
+        room.ends(0)
+        words = [it.split()[0] for it in room.texts()[5:] if "line 1" not in it]
+        # it may be held up between a look at the clock and one for a request, and then sees no jump
+        if words != ["asked", "stopped"]:
+            break
+    wanted("lines behind those of the files", ["outage", "asked", "stopped"], words)
+    answer = room.call(*"replay crontab log --declarations declarations --log --judge".split())
+    wanted("replay", (0, ["safe so far"]), (answer[0], answer[1].splitlines()[-1:]))
+
+
 def stopped_twice(room):
     """`stop --now`, which doesn't wait, twice, and a daemon that comes next."""
     _, run = begin_job(room, HELD)
     for _ in range(2):
-        wanted("stop --now", (0, "", ""), room.ask("stop", "stamps", "--now"))
+        room.stop_now()
     room.write("done", "")
     room.ends(0)
     room.holds(runs(run), ran="x\n")
@@ -229,21 +399,15 @@ def stopped_twice(room):
     room.holds([], ran="x\n")
 
 
-def stop_that_stays(room):
-    """A folder where the file is that asks a daemon to stop: it can't be removed."""
-    take_job(room)
-    (room.folder / "stamps" / "cronsafe stop").mkdir()
-    room.run(*ONCE, status=6, seconds=SOON)
-    room.holds(printed="", said="cronsafe: can't remove old requests from stamps\n", ran="")
-
-
 def reloaded(room):
     """`reload` beside a run under way, with other tables, with no certificate, and of nobody."""
     minute, run = take_job(room, HELD)
     room.start(room.words("--log", "log"))
-    room.wait_for("a start", lambda: f"started {run}" in room.read("log"))
+    room.wait_for_logged(f"started {run}")
     room.take(declared(1, [], ["a", "b"]), "", "7 0 a echo y >>ran\n7 0 b echo z >>ran\n")
-    wanted("reload", (0, "", ""), room.reload())
+    status, out, said = room.reload()
+    waits = re.fullmatch(r"cronsafe: waiting for (.+), which may run until \S+Z\n", said)
+    wanted("reload", (0, "", run), (status, out, waits and waits[1]))
     room.write("done", "")
     room.wait_for("the new job", lambda: room.read("ran") == "x\nz\n")
     room.wait_for("the stamps", lambda: {"a", "b"} <= set(room.read("stamps")))
@@ -252,24 +416,14 @@ def reloaded(room):
     wanted("reload", (3, "", told), room.reload())
     room.stop()
     room.holds(printed="", ran="x\nz\n")
-    _, texts = moments_and_texts(room.read("log").splitlines())
-    texts = [it for it in texts if not it.startswith("no plan after ")]
+    texts = [it for it in room.texts() if not it.startswith("no plan after ")]
     refused = texts.index("reload refused, the old plan goes on")
     wanted("the refusal", told.splitlines(), texts[refused + 1 : -2])
     kinds = [" ".join(it.split()[:2]) for it in texts[:refused] + texts[-2:]]
-    digests = [f"{it} sha256" for it in ("table", "declarations", "certificate")]
-    begins = ["running crontab", *digests, "started job"]
-    new = [*begins, "ended job", "asked to", "asked to", "stopped"]
-    old = [*begins, "asked to", "reload accepted,", "ended job", "stopped"]
-    wanted("kinds of lines", old + new, kinds)
+    wanted("kinds of lines", TEXTS["kinds of lines of two plans"].splitlines(), kinds)
     wanted("the stamp", stamp_text(minute), room.read("stamps")["a"])
     wanted("reload of nobody", UNUSED, room.ask("reload", "stamps"))
-    wanted("what is left", {"a", "b"}, set(room.read("stamps")))
-
-
-# A table of a machine, and declarations of it with a part that isn't among those of its line.
-GATHERED = "CRONSAFE_TABLE=gathered\n#@ /etc/crontab:19 root\n#@ part z\n25 6 * * * run-parts /etc\n"
-OTHER_PARTS = {"cron": [{"line": 4, "max": 1, "parts": [{"name": "a", "max": 1}]}], "capacity": 1}
+    wanted("what is left", {"a", "b", "cronsafe answer"}, set(room.read("stamps")))
 
 
 def refused_reload(room):
@@ -278,103 +432,82 @@ def refused_reload(room):
     room.take(declared(4, (1, 2), line2={"max": 10}), table)
     room.step("--log", "log", seconds=6)
     room.wait_for("a run", lambda: room.read("ran"))
-    room.take_tables(declared(4, (1, 2), line2={"max": 60}), table.replace("old", "new"))
     refusal = "refused 5 WindowMissing: line 2 due 1970-01-02 23:30 at 1970-01-03 00:00\n"
-    answer = room.call("check", "crontab", "declarations", "certificate")
-    wanted("check", (1, refusal, STALE), answer)
-    wanted("reload", (1, "", refusal), room.reload())
-    room.take_tables(OTHER_PARTS, GATHERED)
     fault = "cronsafe: declarations: 20 OtherParts at cron 1\n"
-    answer = room.call("check", "crontab", "declarations", "certificate")
-    wanted("check of other parts", (3, "", fault), answer)
-    wanted("reload of other parts", answer, room.reload())
+    check = ("check", "crontab", "declarations", "certificate")
+    room.take_tables(declared(4, (1, 2), line2={"max": 60}), table.replace("old", "new"))
+    stale = TEXTS["note beside the refusal"]
+    wanted("check", (1, refusal, stale), room.call(*check))
+    wanted("reload", (1, "", stale + refusal), room.reload())
+    room.take_tables(json.loads(TEXTS["other parts"]), TEXTS["gathered table"])
+    wanted("check of other parts", (3, "", fault), room.call(*check))
+    wanted("reload of other parts", (3, "", fault), room.reload())
     before = len(room.read("ran").split())
     room.wait_for("more runs", lambda: len(room.read("ran").split()) > before + 2)
     room.stop()
     wanted("runs", {"old"}, set(room.read("ran").split()))
-    _, texts = moments_and_texts(room.read("log").splitlines())
-    log = without_shown("\n".join(texts).encode(), lambda it: room.read(it.decode()).encode(), True)
-    texts = log.decode().split("\n")
-    refused = ["asked to reload", "reload refused, the old plan goes on"]
-    asked = [*refused, refusal.strip(), *refused, *fault.splitlines()]
-    others = [it for it in texts[4:] if not it.startswith(("started ", "ended ", "overrun "))]
-    wanted("log", [*job_lines(table), *asked, "asked to stop", "stopped"], others)
+    log = "\n".join(room.texts()[4:]).encode()
+    log = without_shown(log, lambda it: room.read(it.decode()).encode(), True).decode()
+    log = re.sub("(?m)^(?:started|ended|overrun) .*\n", "", log)
+    told = ["asked to reload", "reload refused, the old plan goes on"]
+    told = [*job_lines(table), *told, *(stale + refusal).splitlines(), *told, fault.strip()]
+    told += ["asked to stop", "stopped"]
+    wanted("log", "\n".join(told), log)
 
 
-def late_answer(room):
-    """`reload` of a daemon that is held up. For one that doesn't wait, or doesn't say so."""
-    begin(room)
+def answers_of_a_reload(room):
+    """`reload` where the answer has no place, of a daemon that is held up, and of a table with a
+    setting that has no effect. For one that waits for ever, or doesn't wait, or doesn't say so; and a
+    daemon that reloads, or warns nobody.
+    """
+    begin(room, "--log", "log")
+    for _ in in_place(room.folder / "stamps/cronsafe answer new", Path.mkdir):
+        wanted("no place", (6, "", "cronsafe: can't read the answer in stamps\n"), room.reload())
+    wanted("another reload", (0, "", ""), room.reload())
+    wait_for_plans(room, 2)
     room.send(signal.SIGSTOP)
     with ThreadPoolExecutor(1) as pool:
         asked = pool.submit(room.ask, "reload", "stamps")
         time.sleep(5)
         room.send(signal.SIGCONT)
-        wanted("reload", (0, "", WAITED), asked.result())
+        wanted("late answer", (0, "", WAITED), asked.result())
+    wait_for_plans(room, 3)
+    room.write("crontab", "CRON_TZ=UTC\n")
+    status, out, err = room.call("check", "crontab", "declarations", "certificate")
+    wanted("check", (0, "safe\n", 1), (status, out, err.count("CRON_TZ")))
+    wanted("reload with a warning", (0, "", err), room.reload())
     room.stop()
+    told = ("can't answer, the old plan goes on", " reload accepted", " running crontab ")
+    wanted("counts of lines", [1, 3, 4], [room.read("log").count(it) for it in told])
 
 
 def stopped_while_it_reloads(room):
     """`stop` while the last run of the old plan ends. For a daemon that opens the new plan by then."""
     minute, run = begin_job(room, HELD)
     room.take(declared(1, [], ["a", "b"]), "", "7 0 a echo y >>ran\n7 0 b echo z >>ran\n")
-    wanted("reload", (0, "", ""), room.reload())
-    wanted("stop --now", (0, "", ""), room.ask("stop", "stamps", "--now"))
+    wanted("reload", (0, ""), room.reload()[:2])
+    room.stop_now()
     room.write("done", "")
     room.ends(0)
     room.holds(runs(run), said="", ran="x\n")
     wanted("the stamp", stamp_text(minute), room.read("stamps")["a"])
 
 
-def reload_of_standard_input(room):
-    """`reload` of a daemon whose table was standard input. For one that takes an empty table then."""
-    begin(room, table="-")
-    told = (6, "", "cronsafe: can't read standard input again\n")
-    wanted("reload", told, room.reload())
-    room.stop()
-
-
 def reload_of_a_pipe(room):
     """`reload` where a pipe or a folder has taken a file's place. For a daemon that waits for it."""
-    begin(room)
-    told = (6, "", "cronsafe: can't read a pipe, a device or a folder again\n")
-    for name in ("crontab", "declarations", "certificate"):
+    begin(room, "--log", "log")
+    unread = "can't read a pipe, a device or a folder again"
+    whys = dict.fromkeys(("crontab", "declarations", "certificate"), unread)
+    for name, why in {**whys, "log": "can't write the log"}.items():
         path, aside = room.folder / name, room.folder / "aside"
         path.rename(aside)
-        os.mkfifo(path)
-        wanted(f"reload with a pipe for {name}", told, room.reload())
-        path.unlink()
-        path.mkdir()
-        wanted(f"reload with a folder for {name}", told, room.reload())
-        path.rmdir()
+        for _ in in_place(path, os.mkfifo, Path.mkdir):
+            wanted(f"another kind of {name}", (6, "", f"cronsafe: {why}\n"), room.reload())
         aside.rename(path)
+    (room.folder / "log").unlink()
     wanted("reload", (0, "", ""), room.reload())
+    room.wait_for_file("log")
     room.stop()
-
-
-def warnings_of_a_reload(room):
-    """`reload` of a table with a setting that has no effect. For a daemon that warns nobody of it."""
-    begin(room)
-    room.write("crontab", "CRON_TZ=UTC\n")
-    status, out, err = room.call("check", "crontab", "declarations", "certificate")
-    wanted("check", (0, "safe\n", 1), (status, out, err.count("CRON_TZ")))
-    wanted("reload", (0, "", err), room.reload())
-    room.stop()
-
-
-def answer_that_cant_be_written(room):
-    """`reload` where the answer has no place. For one that waits for ever, or a daemon that reloads."""
-    begin(room, "--log", "log")
-    place = room.folder / "stamps" / "cronsafe answer new"
-    place.mkdir()
-    told = (6, "", "cronsafe: can't read the answer in stamps\n")
-    wanted("reload", told, room.reload())
-    place.rmdir()
-    wanted("another reload", (0, "", ""), room.reload())
-    wait_for_plans(room, 2)
-    room.stop()
-    log = room.read("log")
-    wanted("plans", 2, log.count(" running crontab "))
-    wanted("the one that goes on", 1, log.count("can't answer, the old plan goes on"))
 
 
 def wait_for_plans(room, number):
@@ -383,52 +516,103 @@ def wait_for_plans(room, number):
     room.wait_for(what, lambda: room.read("log").count(" running crontab ") >= number)
 
 
+def look_at_minutes(log):
+    """Holds a log against that the command of line 1 was started in each minute."""
+    due = [minute_of(it) for it in re.findall("started line 1 due (.+)", log)]
+    wanted("minutes of the runs", list(range(due[0], due[-1] + 1)), due)
+    wanted("gaps", (0, 0), (log.count("outage"), log.count("no plan after")))
+
+
 def reloaded_often(room):
     """Minutely runs while the daemon is asked to reload six times, by a clock of steps."""
     room.take(declared(2, [1]), "* * * * * echo x >>ran\n")
     room.step("--log", "log", seconds=7)
     for times in range(6):
         room.wait_for("runs", lambda: len(room.read("ran").split()) > 3 * times + 2)
-        wanted("reload", (0, "", ""), room.reload())
+        wanted("reload", (0, ""), room.reload()[:2])
     wait_for_plans(room, 7)
     room.stop()
+    look_at_minutes(room.read("log"))
+    wanted("plans", 7, room.read("log").count(" running crontab "))
+
+
+def reload_beside_a_long_run(room, words, *options):
+    """Has `reload` wait for a run of minutes beside minutely ones, by a clock of steps.
+
+    The new table says other words in each minute. Returns what `reload` says.
+    """
+    table = f"* * * * * echo x >>ran\n{due_at(minute_now() + 3)} {UNTIL.format('done')}\n"
+    room.take(declared(5, [1, 2], line2={"max": 4000}), table)
+    room.step("--log", "log", seconds=7)
+    room.wait_for_logged("started line 2")
+    room.take(declared(5, [1, 2], line2={"max": 4000}), table.replace("echo x", f"echo {words}"))
+    status, out, told = room.ask("reload", "stamps", *options)
+    wanted("reload", (0, ""), (status, out))
+    wanted("the long run", 1, told.count("waiting for line 2 due "))
+    return told
+
+
+def reloaded_beside_a_long_run(room):
+    """Minutely runs while `reload` waits for a run of minutes. For a gap."""
+    told = reload_beside_a_long_run(room, "y")
+    wanted("the end of what it says", True, told.endswith(TEXTS["said of busy minutes"]))
+    before = len(room.read("ran").split())
+    room.wait_for("more runs of the old plan", lambda: len(room.read("ran").split()) > before + 5)
+    wanted("runs before the end", {"x"}, set(room.read("ran").split()))
+    room.write("done", "")
+    room.wait_for("runs of the new plan", lambda: room.read("ran").count("y") > 3)
+    room.stop()
     log = room.read("log")
-    wanted("plans", 7, log.count(" running crontab "))
-    due = [minute_of(it) for it in re.findall("started line 1 due (.+)", log)]
-    lost = set()
-    for latest, now in re.findall("no plan after (.+) up to (.+)", log):
-        lost |= set(range(minute_of(latest) + 1, minute_of(now) + 1))
-    every = set(range(due[0], due[-1] + 1))
-    wanted("minutes of the runs", sorted(every - lost), due)
-    wanted("outages", 0, log.count("outage"))
+    look_at_minutes(log)
+    begins = re.search("begins in (.+) and starts nothing due in it", log)
+    first = re.search("started line 1 due (.+)", log[begins.start() :])
+    wanted("the first run of the new plan", minute_of(begins[1]) + 1, minute_of(first[1]))
 
 
-def minute_of(text):
-    """Returns the minute since 1970 of a text as `2024-09-13 23:30`."""
-    return calendar.timegm(time.strptime(text, "%Y-%m-%d %H:%M")) // MINUTE
+def reloaded_by_draining(room):
+    """`reload --drain` beside a run under way. For a daemon that starts more by its old plan."""
+    told = reload_beside_a_long_run(room, "x", "--drain")
+    left = re.search("until then up to (.+) runs of the old files are left out\n", told)
+    wanted("runs that are left out", True, 0 < int(left[1]) <= 4004)
+    wanted("requests that stay", False, (room.folder / "stamps/cronsafe drain").exists())
+    time.sleep(2)
+    before = len(room.read("ran").split())
+    time.sleep(3)
+    wanted("runs while it ends", before, len(room.read("ran").split()))
+    room.write("done", "")
+    wait_for_plans(room, 2)
+    room.wait_for("more runs", lambda: len(room.read("ran").split()) > before + 2)
+    room.stop()
+    log = room.read("log")
+    latest, now = re.search("no plan after (.+) up to (.+)", log).groups()
+    state = json.loads(room.read("stamps/cronsafe state"))
+    wanted("missed runs", minute_of(now) - minute_of(latest), state["missed"])
+    wanted("how it was accepted", 1, log.count("reload accepted, the runs under way end first"))
+    wanted("gaps", (0, 1), (log.count("outage"), log.count("no plan after")))
 
 
 def called_hooks(room):
-    """A run that fails, and one that is late, by a clock of steps, with a command for each."""
+    """Runs that fail or are killed, and one that is late, by a clock of steps, with hooks."""
     minute = minute_now() + 3
-    table = f"{due_at(minute)} sleep 2\n{due_at(minute + 600)} :\n{due_at(minute)} exit 3\n"
-    terms = {"group": "g", "max": 1}
-    room.take(declared(3, [1, 2, 3], groups=["g"], line1=terms, line2=terms), table)
+    at = due_at(minute)
+    table = f"{at} sleep 2\n{due_at(minute + 600)} :\n{at} exit 3\n{at} kill -9 $$\n"
+    terms, long = {"group": "g", "max": 1}, {"max": 500}
+    terms = {"line1": terms, "line2": terms, "line3": long, "line4": long}
+    room.take(declared(4, [1, 2, 3, 4], groups=["g"], **terms), table)
     tell = 'echo "$CRONSAFE_EVENT $CRONSAFE_RUN'
-    room.step(
-        *("--log", "log"),
-        *("--on-overrun", f'{tell} $CRONSAFE_MAY_MEET" >>told; sleep 60'),
-        *("--on-failure", f'{tell} $CRONSAFE_STATUS" >>told; sleep 60'),
-        seconds=6,
-    )
-    late, failed = (f"line {it} due {date_text(minute)}" for it in (1, 3))
-    room.wait_for("calls", lambda: room.read("told").count("\n") == 2)
+    hooks = ("--on-overrun", f'{tell} $CRONSAFE_MAY_MEET" >>told; sleep 60')
+    hooks += ("--on-failure", f'{tell} $CRONSAFE_STATUS" >>told; sleep 60')
+    room.step("--log", "log", *hooks, seconds=6)
+    late, failed, killed = (f"line {it} due {date_text(minute)}" for it in (1, 3, 4))
+    room.wait_for("calls", lambda: room.read("told").count("\n") == 3)
     room.stop()
-    calls = [f"failure {failed} 3", f"overrun {late} line 1, line 2"]
+    calls = [f"failure {failed} 3", f"failure {killed} signal 9", f"overrun {late} line 1, line 2"]
     wanted("calls", calls, sorted(room.read("told").splitlines()))
-    _, texts = moments_and_texts(room.read("log").splitlines())
-    wanted("lines of calls", 2, sum(it.startswith("outside of the plan: started echo") for it in texts))
+    texts = room.texts()
+    wanted("lines of calls", 3, sum(it.startswith("outside of the plan: started echo") for it in texts))
     wanted("who may meet", True, f"{late} may meet line 1, line 2" in texts)
+    ends = [it for it in texts if re.fullmatch(f"ended {killed} signal 9 after \\d+ s", it)]
+    wanted("ends by a signal", 1, len(ends))
 
 
 def own_home(room):
@@ -446,47 +630,39 @@ def own_home(room):
 
 def timed_log(room):
     """A log with times, behind what its file holds already, and on standard output."""
-    command = "echo printed; sleep 3; exit 4"
-    _, run = take_job(room, command)
+    _, run = take_job(room, "echo printed; sleep 3; exit 4")
     room.write("log", "what was there\n")
     before = int(time.time())
     room.run(*ONCE, "--log", "log", seconds=SOON)
-    after = int(time.time())
     room.holds(printed="printed\n", said="")
     first, *lines = room.read("log").splitlines()
     wanted("what was there", "what was there", first)
     times, texts = moments_and_texts(lines)
     wanted("order of times", sorted(times), times)
-    wanted("times", True, before <= times[0] and times[-1] <= after)
+    wanted("times", True, before <= times[0] and times[-1] <= time.time())
     opening = "running crontab with declarations and certificate and anacrontab, stamps in stamps"
     seconds = times[5] - times[4]
     wanted("seconds", True, 3 <= seconds <= 3 + SOON)
     events = [f"started {run}", f"ended {run} status 4 after {seconds} s", "stopped"]
-    wanted("log", [f"{opening}, capacity 1", *digest_lines(room), *events], texts)
-    (room.folder / "stamps" / "a").unlink()
+    wanted("log", [f"{opening}, capacity 1", *room.digests(), *events], texts)
+    (room.folder / "stamps/a").unlink()
     room.run(*ONCE, "--log", "-", seconds=SOON)
     _, texts = moments_and_texts(it for it in room.read("printed").splitlines() if it != "printed")
-    kinds = [it.split()[0] for it in texts]
-    digests = ["table", "declarations", "certificate"]
-    wanted("kinds of lines", ["running", *digests, "started", "ended", "stopped"], kinds)
+    kinds = "running table declarations certificate started ended stopped".split()
+    wanted("kinds of lines", kinds, [it.split()[0] for it in texts])
 
 
-def state_of(room, line):
-    """Returns the lines that `status` prints, with status 0, once one of them begins so."""
+def state_of(room, line, status=0):
+    """Returns the lines that `status` prints, with this status, once one of them begins so."""
     found = []
 
     def is_told():
-        status, out, err = room.ask("status", "stamps")
+        got, out, err = room.ask("status", "stamps")
         found[:] = out.splitlines()
-        return (status, err) == (0, "") and any(it.startswith(line) for it in found)
+        return (got, err) == (status, "") and any(it.startswith(line) for it in found)
 
     room.wait_for(f"a state with '{line}'", is_told)
     return found
-
-
-def seconds_of(moment):
-    """Returns the seconds since 1970 of a moment such as 2024-09-13T23:30:01Z."""
-    return calendar.timegm(time.strptime(moment, "%Y-%m-%dT%H:%M:%SZ"))
 
 
 def compact(state):
@@ -525,51 +701,44 @@ def told_state(room):
     wanted("until", started[2], moment_text(times[1] + MAX * MINUTE))
     wanted("order of times", sorted([before, *times, after]), [before, *times, after])
     files = "crontab with declarations and certificate and anacrontab, capacity 1"
-    counts = "skipped 0, overruns 0, not started 0, outages 0, stamps not written 0, missed 0"
-    wanted("lines", [files, counts], [lines[1], *lines[3:]])
+    wanted("lines", [files, NO_COUNTS], [lines[1], *lines[3:]])
     status, out, err = room.ask("status", "stamps", "--json")
     wanted("end of --json", (0, ""), (status, err))
-    state = json.loads(out)
-    _, version, _ = room.call("--version")
-    lasting = {"since": started[1], "until": started[2]}
-    told = {
-        **{"version": version.split()[1], "at": state["at"], "since": head[1]},
-        **{"table": "crontab", "declarations": "declarations", "certificate": "certificate"},
-        "certificate_sha256": digest_lines(room)[-1].split()[-1],
-        **{"anacrontab": "anacrontab", "capacity": 1, "stopping": False},
-        "running": [{"run": run, **lasting, "late": False, "may_meet": ""}],
-        **{"waiting": [], "next_due": None},
-        **dict.fromkeys(("skipped", "overruns", "outages", "missed", "not_started"), 0),
-        **{"stamps_not_written": 0, "stamp_fault_at": None},
-    }
-    wanted("text of --json", compact(told), out)
-    wanted("stop --now", (0, "", ""), room.ask("stop", "stamps", "--now"))
+    told = {"VERSION": room.call("--version")[1].split()[1], "AT": json.loads(out)["at"], "RUN": run}
+    told |= {"SINCE": head[1], "STARTED": started[1], "UNTIL": started[2]}
+    told["DIGEST"] = room.digests()[-1].split()[-1]
+    right = re.sub("[A-Z]{2,}", lambda it: told[it[0]], TEXTS["state of a run"])
+    wanted("text of --json", right, out)
+    room.stop_now()
     lines = state_of(room, "nothing more is started")
     wanted("lines while it stops", [files, "nothing more is started"], lines[1:3])
     room.write("done", "")
     room.ends(0)
-    wanted("status of nobody", UNUSED, room.ask("status", "stamps"))
+    wanted("lines of the last state", [*lines[1:3], NO_COUNTS], room.look_at_nobody()[1:])
 
 
-def late_state(room):
-    """A run that takes longer than declared. For a state that stays fine, or stays late."""
-    minute, run = take_job(room, UNTIL.format("done"), max=1)
+def late_run(room):
+    """A run that is late for two minutes: its line, what `status` says, and what a reload keeps."""
+    minute, run = take_job(room, HELD, max=1)
     room.step()
     room.wait_for_line(f"started {run}")
-    room.set_clock(MINUTE * (minute + 1) + 5)
-    room.wait_for_line(f"overrun {run}")
-
-    def is_late():
-        status, out, _ = room.ask("status", "stamps")
-        late = f"^{re.escape(run)} runs since .*, late$"
-        return status == 1 and re.search(late, out, re.MULTILINE)
-
-    room.wait_for("a late run", is_late)
+    for passed in (1, 2):
+        room.set_clock(MINUTE * (minute + passed) + 5)
+        room.wait_for_line(f"overrun {run}")
+        time.sleep(3)
+    shown = state_of(room, f"{run} runs since ", status=1)[2]
+    wanted("a late run", True, shown.endswith(", late"))
+    room.holds(ran="")
     room.write("done", "")
     room.wait_for_line(f"ended {run} status 0")
-    lines = state_of(room, "skipped 0, overruns 1,")
-    wanted("lines", 3, len(lines))
+    room.wait_for_file("stamps/a")
+    wanted("lines", 3, len(state_of(room, "skipped 0, overruns 1,")))
+    begun = room.state()["since"]
+    wanted("reload", (0, "", ""), room.reload())
+    wanted("overruns", 1, written_state(room, lambda it: it["since"] != begun)["overruns"])
     room.end()
+    left = {"a": stamp_text(minute), "cronsafe answer": "0\n"}
+    room.holds([*runs(run), f"overrun {run}"], ran="x\n", stamps=left)
 
 
 def late_run_that_meets(room):
@@ -580,102 +749,70 @@ def late_run_that_meets(room):
     room.take(declared(1, (1, 2), groups=["g"], line1=terms, line2=terms), table)
     room.start(room.words("--log", "log"))
     first = f"line 1 due {date_text(due)}"
-    room.wait_for("an overrun", lambda: f"overrun {first}" in room.read("log"), 4 * MINUTE)
-    found = {}
-
-    def is_told():
-        status, out, _ = room.ask("status", "stamps", "--json")
-        found.update({it["run"]: it for it in json.loads(out)["running"]} if out else {})
-        return status == 1 and first in found and found[first]["late"]
-
-    room.wait_for("a late run", is_told)
-    written_state(room, lambda it: len(it["running"]) == 1)
-    until = moment_text(seconds_of(found[first]["since"]) + MINUTE)
-    meets = "line 1, line 2"
-    wanted("the late run", (until, meets), (found[first]["until"], found[first]["may_meet"]))
-    status, out, _ = room.ask("status", "stamps")
-    line = f"{first} runs since {found[first]['since']} until {until}, late, may meet {meets}"
-    wanted("status", (1, True), (status, line in out.splitlines()))
-    told = json.loads(room.ask("status", "stamps", "--json")[1])
+    room.wait_for_logged(f"overrun {first}", seconds=4 * MINUTE)
+    told = written_state(room, lambda it: [one["late"] for one in it["running"]] == [True])
+    (run,), meets = told["running"], "line 1, line 2"
+    until = moment_text(seconds_of(run["since"]) + MINUTE)
+    shown = {"run": first, "since": run["since"], "until": until, "late": True, "may_meet": meets}
+    wanted("the late run", shown, run)
+    line = f"{first} runs since {run['since']} until {until}, late, may meet {meets}"
+    state_of(room, line, status=1)
+    status, out, _ = room.ask("status", "stamps", "--json")
+    wanted("status --json", 1, status)
+    told = json.loads(out)
     seen = seconds_of(told["at"]) // MINUTE
     coming = [(1, due), (2, due + 2), (1, due + DAY)]
     number, minute = next(it for it in coming if it[1] > seen)
     wanted("what is due next", f"line {number} due {date_text(minute)}", told["next_due"])
     room.write("done", "")
-    room.wait_for("the end", lambda: f"ended {first}" in room.read("log"))
+    room.wait_for_logged(f"ended {first}")
     room.end()
-    _, texts = moments_and_texts(room.read("log").splitlines())
-    place = texts.index(f"overrun {first}")
-    wanted("behind the overrun", f"{first} may meet {meets}", texts[place + 1])
+    texts = room.texts()
+    wanted("behind it", f"{first} may meet {meets}", texts[texts.index(f"overrun {first}") + 1])
     wanted("lines of what meets", 1, sum(" may meet " in it for it in texts))
 
 
-# the state of a daemon with one run that waits, and what makes it none
-STATE, *NO_STATES = Path(__file__).with_name("states").read_text("utf-8").splitlines()
-STATE, NO_STATES = json.loads(STATE), list(map(json.loads, NO_STATES))
+# The state of a daemon with one run that waits. What makes it another one, with the status and the text
+# that are shown of that; its times are seconds from now. And what makes it none.
+STATE, *STATES = map(json.loads, Path(__file__).with_name("states").read_text("utf-8").splitlines())
+STATES, NO_STATES = ([it for it in STATES if isinstance(it, kind)] for kind in (list, dict))
 COUNTS = "skipped 1, overruns 2, not started 4, outages 3, stamps not written 5"
-
-
-def moment_text(seconds):
-    return time.strftime("%Y-%m-%dT%H:%M:%SZ", time.gmtime(seconds))
 
 
 def states_by_hand(room):
     """States that a lock holder has written, and what `status` says of each."""
-    folder = os.open(room.folder / "stamps", os.O_RDONLY)
-    fcntl.flock(folder, fcntl.LOCK_EX)
     now = int(time.time())
-    soon = 60
     run = {"run": "job a\\x1b at 2024-09-13 23:30", "since": "2024-09-13T23:30:01Z"}
-    shown = "job a\\x1b at 2024-09-13 23:30 runs since 2024-09-13T23:30:01Z"
-    until, shown_until = {"until": "2024-09-13T23:42:01Z"}, " until 2024-09-13T23:42:01Z"
-    meets = {"late": True, "may_meet": "line 5, job backup"}
-    met = ", late, may meet line 5, job backup"
     old = "cronsafe: no state of the last two minutes in stamps\n"
-    rows = [
-        ({}, 0, "", ""),
-        ({"running": [{**run, "late": False}], "more": 1}, 0, f"{shown}\n", ""),
-        ({"running": [{**run, "late": True}]}, 1, f"{shown}, late\n", ""),
-        ({"running": [{**run, **until, "late": False}]}, 0, f"{shown}{shown_until}\n", ""),
-        ({"running": [{**run, "until": None, "late": False}]}, 0, f"{shown}\n", ""),
-        ({"running": [{**run, **until, **meets}]}, 1, f"{shown}{shown_until}{met}\n", ""),
-        ({"running": [{**run, "late": True, "may_meet": ""}]}, 1, f"{shown}, late\n", ""),
-        ({"stamp_fault_at": moment_text(now - 120)}, 1, "", ""),
-        ({"stamp_fault_at": moment_text(now - 121)}, 0, "", ""),
-        ({"at": moment_text(now - 121)}, 2, "", old),
-        ({"at": moment_text(now - 121), "running": [{**run, "late": True}]}, 2, f"{shown}, late\n", old),
-        ({"at": moment_text(now + soon)}, 0, "", ""),
-        ({"at": moment_text(now - 200), "stopping": True}, 0, "nothing more is started\n", ""),
-        ({"anacrontab": "my jobs"}, 0, "", ""),
-        ({"next_due": None, "certificate_sha256": "0f" * 32}, 0, "", ""),
-        ({"next_due": "line 3 due 2024-09-14 00:00"}, 0, "", ""),
-        *(({"missed": count}, 0, "", "") for count in (0, 6, 2**64 - 1)),
-    ]
-    for members, status, lines, err in rows:
-        state = {**STATE, "at": moment_text(now), **members}
-        text = json.dumps(state)
-        room.write("stamps/cronsafe state", text)
-        files = "evening.cron with evening.json and evening.cert"
-        if state["anacrontab"]:
-            files += f" and {state['anacrontab']}"
-        out = f"running since {state['since']}, seen at {state['at']}\n{files}, capacity 3\n{lines}"
-        out += "line 2 due 2024-09-13 23:30 waits\n"
-        if state.get("next_due"):
-            out += f"next is {state['next_due']}\n"
-        out += f"{COUNTS}, missed {state.get('missed', 0)}\n"
-        wanted(f"status of {members}", (status, out, err), room.ask("status", "stamps"))
-        as_it_is = room.ask("status", "--json", "stamps")
-        wanted(f"status --json of {members}", (status, text, err), as_it_is)
-    fcntl.flock(folder, fcntl.LOCK_UN)  # a child that another test forks may hold the descriptor still
-    os.close(folder)
-    wanted("status of nobody", UNUSED, room.ask("status", "stamps"))
+    with locked(room):
+        for members, status, told in STATES:
+            state = {**STATE, "at": 0, **members}
+            times = {it: state[it] for it in ("at", "stamp_fault_at") if state[it] is not None}
+            state |= {name: moment_text(now + it) for name, it in times.items()}
+            state["running"] = [{**run, **it} for it in state["running"]]
+            files = "evening.cron with evening.json and evening.cert"
+            files += f" and {state['anacrontab']}" if state["anacrontab"] else ""
+            counts = f"{COUNTS}, missed {state.get('missed', 0)}"
+            limits = state.get("ended_at_limit")
+            lines = [
+                *(f"running since {state['since']}, seen at {state['at']}", f"{files}, capacity 3"),
+                f"{run['run']} runs since {run['since']}{told}" if state["running"] else told,
+                "line 2 due 2024-09-13 23:30 waits",
+                f"next is {state['next_due']}" if state.get("next_due") else "",
+                counts if limits is None else f"{counts}, ended at their limit {limits}",
+            ]
+            out, err = "".join(f"{it}\n" for it in lines if it), old if status == 2 else ""
+            text = json.dumps(state)
+            room.write("stamps/cronsafe state", text)
+            wanted(f"status of {members}", (status, out, err), room.ask("status", "stamps"))
+            as_it_is = room.ask("status", "--json", "stamps")
+            wanted(f"status --json of {members}", (status, text, err), as_it_is)
+    room.look_at_nobody()
 
 
 def states_that_cant_be_read(room):
     """What is no state: no file, another kind of file, too much, no JSON or another."""
-    folder = os.open(room.folder / "stamps", os.O_RDONLY)
-    fcntl.flock(folder, fcntl.LOCK_EX)
-    path = room.folder / "stamps" / "cronsafe state"
+    path = room.folder / "stamps/cronsafe state"
     unread = (6, "", "cronsafe: can't read the state in stamps\n")
     fine = {**STATE, "at": moment_text(int(time.time()))}
     room.write("fine", json.dumps(fine))
@@ -684,62 +821,34 @@ def states_that_cant_be_read(room):
         for words in (["stamps"], ["stamps", "--json"]):
             wanted(f"status of {what}", unread, room.ask("status", *words))
 
-    look("nothing")
-    path.mkdir()
-    look("a folder")
-    path.rmdir()
-    os.mkfifo(path)
-    look("a pipe")
-    path.unlink()
-    path.symlink_to(room.folder / "fine")
-    look("a link")
-    path.unlink()
-    wrong = [{key: it for key, it in fine.items() if key != absent} for absent in list(fine)[1:]]
-    wrong += [{**fine, **it} for it in NO_STATES]
-    texts = ["", "{}", "[]", "1", json.dumps(fine)[:-1], json.dumps(fine) + " " * 2**20]
-    for text in (*texts, *map(json.dumps, wrong), json.dumps(fine).replace("evening", "\udcff")):
-        path.write_bytes(text.encode("utf-8", "surrogateescape"))
-        look(text[:200])
-    path.write_text(json.dumps(fine))
-    wanted("status of a state", 0, room.ask("status", "stamps")[0])
-    os.close(folder)
+    with locked(room):
+        look("nothing")
+        for _ in in_place(path, Path.mkdir, os.mkfifo, room.folder / "fine"):
+            look("another kind of file")
+        wrong = [{key: it for key, it in fine.items() if key != absent} for absent in list(fine)[1:]]
+        wrong += [{**fine, **it} for it in NO_STATES]
+        texts = ["", "{}", "[]", "1", json.dumps(fine)[:-1], json.dumps(fine) + " " * 2**20]
+        for text in (*texts, *map(json.dumps, wrong), json.dumps(fine).replace("evening", "\udcff")):
+            path.write_bytes(text.encode("utf-8", "surrogateescape"))
+            look(text[:200])
+        path.write_text(json.dumps(fine))
+        wanted("status of a state", 0, room.ask("status", "stamps")[0])
 
 
-def shown_name(room):
-    """An identifier that would make a line and colours of its own, and such a command."""
+def shown_texts(room):
+    """An identifier that would make a line and colours of its own, such a command, and MAILTO, which
+    isn't heeded. For a log that tells it where no mail is asked.
+    """
     name = "a\x1b[31m\rb"
-    table = "0 0 1 1 * printf 'a\\tb'\t|\x1b[31m cat\n"
-    room.take(declared(2, [1], [name]), table, f"7 0 {name} true\n")
+    table = "MAILTO=root\nMAILTO=\"\"\nMAIL=x\n0 0 1 1 * printf 'a\\tb'\t|\x1b[31m cat\n"
+    room.take(declared(2, [4], [name]), table, f"# jobs\nMAILTO = operator\n7 0 {name} true\n")
     early_minute()
     room.run(*ONCE, "--log", "log", seconds=SOON)
-    _, texts = moments_and_texts(room.read("log").split("\n")[:-1])
-    wanted("the command", "job line 1: printf 'a\\x5ctb'\\x09|\\x1b[31m cat", texts[4])
-    wanted("the name", "started job a\\x1b[31m\\x0db at", texts[5][: texts[5].index(" at") + 3])
-
-
-def signal_in_a_log(room):
-    """A job that is killed, told in a log with times and to a command of the operator's."""
-    _, run = take_job(room, "kill -9 $$")
-    hook = 'echo "$CRONSAFE_RUN $CRONSAFE_STATUS" >>told'
-    room.start(room.words("--log", "log", "--on-failure", hook))
-    room.wait_for("the call", lambda: room.read("told").endswith("\n"))
-    room.stop()
-    _, texts = moments_and_texts(room.read("log").splitlines())
-    ends = [it for it in texts if it.startswith("ended")]
-    wanted("ends", 1, len(ends))
-    wanted("the end", True, bool(re.fullmatch(f"ended {run} signal 9 after \\d+ s", ends[0])))
-    wanted("the call", f"{run} signal 9\n", room.read("told"))
-
-
-def mail_in_a_log(room):
-    """What a log says of MAILTO, which isn't heeded. For one that tells it where no mail is asked."""
-    table = 'MAILTO=root\nMAILTO=""\nMAIL=x\n'
-    room.take(declared(1, [], ["a"]), table, f"# jobs\nMAILTO = operator\n{ONE_JOB}")
-    room.run(*ONCE, "--log", "log", seconds=SOON)
-    _, texts = moments_and_texts(room.read("log").splitlines())
+    *texts, started = room.texts()[4:8]
     lines = [f"MAILTO on line {it} has no effect" for it in ("1 of the crontab", "2 of the anacrontab")]
-    wanted("lines of MAILTO", lines, texts[4:6])
-    wanted("line behind them", "started", texts[6].split()[0])
+    lines += ["job line 4: printf 'a\\x5ctb'\\x09|\\x1b[31m cat"]
+    wanted("lines of MAILTO and of the command", sorted(lines), sorted(texts))
+    wanted("the name", "started job a\\x1b[31m\\x0db at", started[: started.index(" at") + 3])
 
 
 def output_name(minute, job):
@@ -749,7 +858,8 @@ def output_name(minute, job):
 
 def output_files(room):
     """What jobs print goes into files of their own, of which two of each job are kept."""
-    (room.folder / "out").mkdir()
+    out = room.folder / "out"
+    out.mkdir()
     others = ["2024-01-01T00:00-line-1", "2024-01-01T00:00-job-aa", "2024-01-01T00:00-job-a ", "x-job-a"]
     old = [f"2024-01-0{it}T00:00-job-a" for it in (1, 2, 3)]
     for name in (*others, *old):
@@ -762,11 +872,10 @@ def output_files(room):
     room.holds([f"started {run}", f"ended {run} status 3"], said="")
     kept = {it: it for it in (*others, old[2])}
     wanted("files", {**kept, name: "before\ntold\nwrong\n"}, room.read("out"))
-    (room.folder / "stamps" / "a").unlink()
-    for path in (room.folder / "out").iterdir():
+    for path in (room.folder / "stamps/a", *out.iterdir()):
         path.unlink()
     minute = early_minute()
-    (room.folder / "out" / output_name(minute, "job-a")).mkdir()
+    (out / output_name(minute, "job-a")).mkdir()
     room.run(*words, seconds=SOON)
     run = f"job a at {date_text(minute)}"
     room.holds([f"started {run}", "told", f"ended {run} status 3"])
@@ -801,37 +910,38 @@ def next_of_a_table(room):
 def closed_streams(room):
     """A daemon that is started without standard input, output or error, or without any of them."""
     command = "cat; echo to_output; echo to_error >&2; (ls -l /proc/$$/fd >fds); true"
-    for closed in ("<&-", ">&-", "2>&-", "<&- >&- 2>&-"):
+    streams = ("<&-", ">&-", "2>&-")
+    for closed in (*streams, "<&- >&- 2>&-"):
         minute, _ = take_job(room, command)
         words = room.words(*ONCE, "--log", "log")
         room.start(["sh", "-c", f'exec "$@" {closed}', "sh", *words])
         room.ends(0)
         room.holds(stamps={"a": stamp_text(minute)})
-        wanted("log", 7, len(room.read("log").splitlines()))
+        wanted("log", 7, len(room.texts()))
         files = [it.split(" -> ")[1] for it in room.read("fds").splitlines() if " -> " in it]
-        for stream, what in enumerate(("<&-", ">&-", "2>&-")):
+        for stream, what in enumerate(streams):
             if what in closed.split():
                 wanted(f"stream {stream} with {closed}", "/dev/null", files[stream])
         wanted("stamps or log", [], [it for it in files if it.endswith(("stamps/a", "/log"))])
-        (room.folder / "stamps" / "a").unlink()
-        (room.folder / "log").unlink()
+        for name in ("stamps/a", "log"):
+            (room.folder / name).unlink()
 
 
 def pipes_among_stamps(room):
     """Pipes and a link in place of a stamp, of one that is being written, and of a state."""
     minute, run = take_job(room)
-    folder = room.folder / "stamps"
+    stamp = room.folder / "stamps/a"
     for name in ("a", "a new", "cronsafe state new"):
-        os.mkfifo(folder / name)
+        os.mkfifo(room.folder / "stamps" / name)
     room.run(*ONCE, seconds=SOON)
     room.holds([*runs(run), "stamp not read a"], said="", ran="x\n")
-    wanted("stamp", stamp_text(minute), (folder / "a").read_text())
-    (folder / "a").unlink()
+    wanted("stamp", stamp_text(minute), stamp.read_text())
+    stamp.unlink()
     room.write("elsewhere", "20240101\n")
-    (folder / "a").symlink_to(room.folder / "elsewhere")
+    stamp.symlink_to(room.folder / "elsewhere")
     room.run(*ONCE, seconds=SOON)
     room.holds(runs(run), said="", ran="x\nx\n", elsewhere="20240101\n")
-    wanted("stamp", stamp_text(minute), (folder / "a").read_text())
+    wanted("stamp", stamp_text(minute), stamp.read_text())
 
 
 def clock_put_back(room):
@@ -839,19 +949,14 @@ def clock_put_back(room):
     take_job(room, "echo x >>ran; sleep 100")
     room.step("--log", "log")
     room.wait_for("a run", lambda: room.read("ran"))
-    ends = (-180, "waiting until it has passed"), (-7200, "ending, for it had shown")
-    for seconds, end in ends:
+    for seconds, end in (-180, "waiting until it has passed"), (-7200, "ending, for it had shown"):
         room.shift(seconds)
-        room.wait_for(end, lambda end=end: end in room.read("log"))
+        room.wait_for_logged(end)
         room.shift(0 if seconds > -3600 else seconds)
         time.sleep(3)
-    _, texts = moments_and_texts(room.read("log").splitlines())
-    backs = [it for it in texts if it.startswith("clock back to ")]
-    wanted("lines of clocks that went back", 2, len(backs))
-    for line, minutes in zip(backs, (3, 120)):
-        found = re.findall(r"\d{4}-\d\d-\d\d \d\d:\d\d", line)
-        shown, latest = map(minute_of, found)
-        wanted(f"minutes in '{line}'", minutes, latest - shown)
+    backs = [it for it in room.texts() if it.startswith("clock back to ")]
+    shown = [[*map(minute_of, re.findall(r"\d{4}-\d\d-\d\d \d\d:\d\d", it))] for it in backs]
+    wanted(f"minutes in {backs}", [3, 120], [latest - back for back, latest in shown])
     wanted("the daemon while its run goes on", None, room.status())
     wanted("runs", "x\n", room.read("ran"))
 
@@ -860,8 +965,8 @@ def day_of_steps(room):
     """A day of two jobs, by a clock that goes on by a minute in a hundredth of a second."""
     hourly, twice = "7 * * * * echo x >>hours", "*/30 * * * * echo x >>halves"
     room.take(declared(2, [1, 2], line1={"max": 50}, line2={"max": 25}), f"{hourly}\n{twice}\n")
-    # it runs nothing in its first minute, and ends before its last
-    daemon = room.step("--minutes", "1441", seconds=60)
+    # it runs nothing in its first minute
+    daemon = room.step("--minutes", "1440", seconds=60)
     room.wait_for("an hour", lambda: len(room.read("hours")) >= 2)
     early = resident(daemon)
     room.wait_for("a day", lambda: len(room.read("hours")) >= 46, 6 * MINUTE)
@@ -894,13 +999,6 @@ def many_at_once(room):
         raise Fault(f"only {sum(starts)} of the first 64 lines tell of a start")
 
 
-def job_with_a_child(room):
-    """A job that leaves a process with its outputs open. For a daemon that waits for that."""
-    _, run = take_job(room, "sleep 1000 & echo x >>ran")
-    room.run(*ONCE, seconds=SOON)
-    room.holds(runs(run), said="", ran="x\n")
-
-
 def killed_anywhere(room):
     """Daemons that are killed a moment after their start, and what one does that comes next."""
     take_job(room, "echo a >>ran")
@@ -909,22 +1007,15 @@ def killed_anywhere(room):
 
 
 def killed_at(room, which):
-    """Kills a daemon of its own so many fortieths of a second after it came, and runs one more."""
-    own = Room(room.program, room.folder / f"killed {which}", room.libraries)
-    for name in ("crontab", "anacrontab", "declarations", "certificate"):
-        own.write(name, room.read(name))
-    own.options, day = room.options, early_minute()
-    try:
-        own.start(own.words("--minutes", "0"))
+    """Kills a daemon of its own so many hundredths of a second after it came, and runs one more."""
+    with room.another(f"killed after {which} hundredths of a second") as own:
+        day = early_minute()
+        own.start(own.words(*ONCE))
         time.sleep(which / 100)
         own.send(signal.SIGKILL)
         own.wait_for("its end", lambda: own.status() is not None)
         time.sleep(0.2)
         failures.look_at_second_call(own, day)
-    except Fault as fault:
-        raise Fault(f"killed after {which} hundredths of a second: {fault}") from None
-    finally:
-        own.close()
 
 
 def runs_that_wait(room):
@@ -936,7 +1027,7 @@ def runs_that_wait(room):
     write = "date +\\%s >>"
     table = "".join(f"{due_at(due)} {write}{it}; sleep 8; {write}{it}\n" for it in names)
     room.take(declared(4, (1, 2, 3, 4), groups=["g", "h"], **terms), table)
-    room.start(room.words("--minutes", "2"))
+    room.start(room.words("--minutes", "1"))
     lines = [f"line {it} due {date_text(due)}" for it in (1, 2, 3, 4)]
     state = written_state(room, lambda it: len(it["running"]) == 3, 2 * MINUTE)
     wanted("those that wait", lines[1:2], state["waiting"])
@@ -952,91 +1043,67 @@ def runs_that_wait(room):
 
 
 def lost_log(room):
-    """A log that can't be written: a full device, a pipe that nobody reads, a closed output."""
+    """A log that can't be written: a full device, a pipe that nobody reads, or that is full and that
+    somebody holds open, and a closed output. For a daemon that waits for a reader.
+    """
     take_job(room)
     words = room.words(*ONCE)
-    read_end, write_end = os.pipe()
+    (read_end, write_end), (held, full_end) = os.pipe(), os.pipe()
     os.close(read_end)
+    fcntl.fcntl(full_end, 1031, 4096)  # F_SETPIPE_SZ
+    os.write(full_end, b"x" * 4096)
     closed = ["/bin/sh", "-c", 'exec "$@" >&-', "sh", *words]
-    with open("/dev/full", "wb") as full, open(write_end, "wb") as broken:
-        calls = (full, words), (broken, words), (None, closed)
+    with open("/dev/full", "wb") as full, open(write_end, "wb") as broken, open(full_end, "wb") as pipe:
+        calls = [(full, words), (broken, words), (None, closed)]
+        calls += [(pipe, words), (pipe, [*words, "--log", "-"])]
         for number, (output, call) in enumerate(calls, 1):
             (room.folder / "stamps/a").unlink(missing_ok=True)
             stamps = {"a": stamp_text(early_minute())}
             room.start(call, output=output)
             room.ends(0)
             room.holds(ran="x\n" * number, stamps=stamps, anacrontab=ONE_JOB)
-
-
-def ended_by_a_signal(room):
-    """SIGTERM while a job runs."""
-    _, run = begin_job(room, "sleep 100; echo x >>ran")
-    room.end()
-    room.holds(printed=f"started {run}\n", said="", stamps={})
-
-
-def overruns(room):
-    """A run that is late for two minutes."""
-    minute, run = take_job(room, HELD, max=1)
-    room.step()
-    room.wait_for_line(f"started {run}")
-    for passed in (1, 2):
-        room.set_clock(MINUTE * (minute + passed) + 5)
-        room.wait_for_line(f"overrun {run}")
-        time.sleep(3)
-    room.holds(ran="")
-    room.write("done", "")
-    room.wait_for_line(f"ended {run} status 0")
-    room.wait_for("the stamp", (room.folder / "stamps/a").is_file)
-    room.end()
-    room.holds([*runs(run), f"overrun {run}"], ran="x\n", stamps={"a": stamp_text(minute)})
+            room.holds(**{"said": ""} if output is pipe else {})
+    os.close(held)
 
 
 def job_not_started(room):
-    """Jobs whose shell isn't there or whose command isn't UTF-8, and one more."""
+    """Jobs whose shell isn't there or whose command isn't UTF-8, and one more; and all in a log with
+    times, where the output of the last one has a folder in its file's place.
+    """
     anacrontab = b"SHELL = /no/such\n1 0 a echo x >>ran\n"
     anacrontab += b"SHELL = /bin/sh\n1 0 b echo \xff >>ran\n1 0 c echo c >>ran\n"
-    room.take(declared(1, [], ["a", "b", "c"]), "", anacrontab)
+    room.take(declared(1, [], "abc"), "", anacrontab)
     day = early_minute()
-    room.run("--minutes", "1", seconds=2 * MINUTE)
+    room.run("--minutes", "0", seconds=2 * MINUTE)
     names = [f"job {it} at {date_text(day)}" for it in "abc"]
     lost = [f"{word} {it}" for it in names[:2] for word in ("started", "not started")]
     stamps = dict.fromkeys("abc", stamp_text(day))
-    said = "cronsafe: can't start '/no/such': No such file or directory (os error 2)\n"
-    said += "cronsafe: can't start a command: it or a setting of it isn't UTF-8\n"
+    reason = "can't start '/no/such': No such file or directory (os error 2)"
+    said = f"cronsafe: {reason}\ncronsafe: can't start a command: it or a setting of it isn't UTF-8\n"
     room.holds([*lost, *runs(names[2])], said=said, ran="c\n", stamps=stamps)
-
-
-def reasons_in_the_log(room):
-    """A job whose shell isn't there, and one whose output has a folder in its file's place."""
-    anacrontab = "SHELL = /no/such\n1 0 a :\nSHELL = /bin/sh\n1 0 b echo x >>ran\n"
-    room.take(declared(1, [], ["a", "b"]), "", anacrontab)
+    for it in "abc":
+        (room.folder / "stamps" / it).unlink()
     first = early_minute()
-    lost, kept = (f"job {it} at {date_text(first)}" for it in "ab")
-    (room.folder / "out" / f"{date_text(first).replace(' ', 'T')}-job-b").mkdir(parents=True)
-    room.run("--minutes", "1", "--log", "log", "--output", "out", seconds=2 * MINUTE)
-    _, texts = moments_and_texts(room.read("log").splitlines())
-    reason = f"{lost}: can't start '/no/such': No such file or directory (os error 2)"
-    at = texts.index(reason)
+    lost, kept = (f"job {it} at {date_text(first)}" for it in "ac")
+    (room.folder / "out" / output_name(first, "job-c")).mkdir(parents=True)
+    room.run("--minutes", "0", "--log", "log", "--output", "out", seconds=2 * MINUTE)
+    texts = room.texts()
+    at = texts.index(f"{lost}: {reason}")
     wanted("the line behind the reason", f"not started {lost}", texts[at + 1])
     reason = f"can't keep the output of {kept} in 'out': no regular file is there"
     wanted("the file", 1, texts.count(reason))
-    wanted("the run", "x\n", room.read("ran"))
+    wanted("the runs", "c\nc\n", room.read("ran"))
 
 
 def ways_to_end(room):
-    """Jobs of an anacrontab that end in several ways, and the order in which they are started."""
-    anacrontab = (
-        "7 1 later echo later >>order\n"
-        "7 0 fine echo fine >>order; sleep 3; echo fine >>order; echo told; echo wrong >&2\n"
-        "7 0 failed echo failed >>order; exit 3\n"
-        "7 0 killed echo killed >>order; kill -9 $$\n"
-        "7 0 unknown echo unknown >>order; /no/such/command\n"
-    )
-    statuses = {"fine": 0, "failed": 3, "killed": "none", "unknown": 127, "later": 0}
-    room.take(declared(1, [], statuses), "", anacrontab)
+    """Jobs of an anacrontab that end in several ways, and the order in which they are started.
+
+    One leaves a process with its outputs open: for a daemon that waits for that.
+    """
+    statuses = {"fine": 0, "failed": 3, "killed": "none", "unknown": 127, "child": 0, "later": 0}
+    room.take(declared(1, [], statuses), "", TEXTS["ways to end"])
     first = early_minute()
-    room.run("--minutes", "2", seconds=3 * MINUTE)
+    room.run("--minutes", "1", seconds=3 * MINUTE)
     lines = ["told"]
     for name, status in statuses.items():
         run = f"job {name} at {date_text(first + (name == 'later'))}"
@@ -1051,7 +1118,7 @@ def outage(room):
     room.take(declared(3, [1], ["a"]), "* * * * * echo x >>line\n", ONE_JOB)
     first = early_minute()
     room.start(room.words())
-    room.wait_for("the stamp", (room.folder / "stamps/a").is_file)
+    room.wait_for_file("stamps/a")
     room.send(signal.SIGSTOP)
     time.sleep(max(0, MINUTE * (first + 2) + 3 - time.time()))
     room.send(signal.SIGCONT)
@@ -1059,26 +1126,7 @@ def outage(room):
     room.wait_for_line(line)
     run = f"line 1 due {date_text(first + 3)}"
     room.wait_for_line(f"ended {run} status 0", 2 * MINUTE)
-    told = json.loads(room.ask("status", "stamps", "--json")[1])
+    told = room.state()
     wanted("outages, and missed runs", (1, 2), (told["outages"], told["missed"]))
     room.end()
     room.holds([line, *runs(f"job a at {date_text(first)}", run)], line="x\n", ran="x\n")
-
-
-TESTS = [
-    *(jobs_are_run, no_minutes, unwritable_folder, unwritable_stamps, second_daemon),
-    *(runs_that_wait, lost_log, ended_by_a_signal, overruns, job_not_started, reasons_in_the_log),
-    *(ways_to_end, outage, stopped, stopped_twice, stop_that_stays, timed_log, shown_name),
-    *(closed_streams, clock_put_back, day_of_steps, many_at_once, job_with_a_child),
-    *(killed_anywhere, reloaded, refused_reload, late_answer, stopped_while_it_reloads),
-    *(reload_of_standard_input, reloaded_often, reload_of_a_pipe, warnings_of_a_reload),
-    *(answer_that_cant_be_written, called_hooks, own_home, signal_in_a_log, mail_in_a_log),
-    *(output_files, outputs_of_a_line, next_of_a_table, pipes_among_stamps, told_state),
-    *(late_state, late_run_that_meets, states_by_hand, states_that_cant_be_read),
-    test_of_stamp("no_stamp", None, True),
-    test_of_stamp("stamp_of_six_days", 6, False),
-    test_of_stamp("stamp_of_seven_days", 7, True),
-    test_of_stamp("stamp_to_come", -1, True),
-    test_of_stamp("unreadable_stamp", "yesterday\n", True, "stamp not read a"),
-    test_of_stamp("empty_stamp", "", True),
-]

@@ -89,8 +89,9 @@ def asks_help(words):
 
 def words_of_check(words):
     """Returns the words that check the certificate of a call, which `made` is of one of `make`."""
-    command, *words = [it for it in words if it not in (b"--compact", b"--home")]
-    for option in b"--keep --log --minutes --on-failure --on-overrun --output".split():
+    flags = (b"--compact", b"--enforce", b"--home")
+    command, *words = [it for it in words if it not in flags]
+    for option in b"--keep --log --minutes --on-failure --on-limit --on-overrun --output".split():
         if option in words:
             at = words.index(option)
             del words[at : at + 2]

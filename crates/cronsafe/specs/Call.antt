@@ -4,7 +4,7 @@ use Rattle.clap.specs.Words.{Text}
 use Rattle.cs_args.specs.Asked.{Asking, Check, Day, Help, Judge, Make, Reload, Replay}
 use Rattle.cs_args.specs.CommandLine.{Asks}
 use Rattle.cs_args.specs.Asked.{Run, Status, Stop}
-use Rattle.cs_args.specs.Asked.{asked_replay, asked_run, asked_status, asked_stop}
+use Rattle.cs_args.specs.Asked.{asked_reload, asked_replay, asked_run, asked_status, asked_stop}
 use Rattle.cs_args.specs.CommandLine.{AsksHelp, AsksVersion, IsNoCall}
 use Rattle.cs_io.specs.Files.{Failed}
 use Rattle.cs_files.specs.Trouble.{Trouble, ends}
@@ -28,8 +28,8 @@ AnswersAsked (Check a) files w before failed = EndsAs (IsChecked a files w befor
 AnswersAsked (Run a) files w before failed = AnswersRun a files w before failed
 AnswersAsked (Stop a) files w before failed = λ answer. (failed ≡ before)
     × ((words : _) × (asked_stop words ≡ a) × (answer ≡ Stops words))
-AnswersAsked (Reload stamps) files w before failed = λ answer. (failed ≡ before)
-    × ((folder : _) × (folder.now ≡ stamps) × (answer ≡ Reloads folder))
+AnswersAsked (Reload a) files w before failed = λ answer. (failed ≡ before)
+    × ((words : _) × (asked_reload words ≡ a) × (answer ≡ Reloads words))
 AnswersAsked (Status a) files w before failed = λ answer. (failed ≡ before)
     × ((words : _) × (asked_status words ≡ a) × (answer ≡ Tells words))
 AnswersAsked (Judge a) files w before failed = EndsAs (AnswersJudge a files w before failed)
@@ -45,7 +45,7 @@ IsReply (task.Check claimed) = EndsAs (IsReplyOn claimed)
 IsReply (task.Run words claimed) = IsRuled (asked_run words) claimed
 IsReply (task.Judge wanted planned) = EndsAs (IsJudged wanted planned.plan planned.places)
 IsReply (task.Stop words) = λ answer. answer ≡ Stops words
-IsReply (task.Reload stamps) = λ answer. answer ≡ Reloads stamps
+IsReply (task.Reload words) = λ answer. answer ≡ Reloads words
 IsReply (task.Status words) = λ answer. answer ≡ Tells words
 IsReply task.Aid = EndsAs (λ ending. (ending.status ≡ 4) × (ending.out ≡ []))
 

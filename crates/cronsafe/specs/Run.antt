@@ -25,8 +25,8 @@ CarriesOut (answers.Runs order) out-old out-new err-old err-new status =
     Serves order out-old out-new err-old err-new status
 CarriesOut (answers.Stops words) out-old out-new err-old err-new status =
     Stops (asked_stop words) out-old out-new err-old err-new status
-CarriesOut (answers.Reloads folder) out-old out-new err-old err-new status =
-    Reloads folder.now out-old out-new err-old err-new status
+CarriesOut (answers.Reloads words) out-old out-new err-old err-new status =
+    Reloads words.stamps.now out-old out-new err-old err-new status
 CarriesOut (answers.Tells words) out-old out-new err-old err-new status =
     Tells words.stamps.now out-old out-new err-old err-new status
 

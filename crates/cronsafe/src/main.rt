@@ -12,7 +12,7 @@ use cs_serve::Streams;
 use std::alloc::Global;
 use std::fs::File;
 use std::process::{ExitCode, Processes};
-use std::rt::Files;
+use std::rt::{Clock, Files};
 use std::sync::Wait;
 
 /// What runners are made with, whatever their settings: the machine, and where they report.
@@ -23,7 +23,7 @@ struct Ground<'x, R> {
     streams: Streams<'x>,
 }
 
-impl<'x, R: Processes + Files<File = File> + Wait> Ground<'x, R> {
+impl<'x, R: Processes + Files<File = File> + Clock + Wait> Ground<'x, R> {
     fn runner(&self, setup: RunnerSetup) -> ShellRunner<'x, R> {
         let home = if setup.has_home {
             Home::of_process(self.rt, self.alloc)
@@ -39,6 +39,7 @@ impl<'x, R: Processes + Files<File = File> + Wait> Ground<'x, R> {
             home,
             setup.tells_signals,
             setup.output,
+            setup.offset,
         )
     }
 }

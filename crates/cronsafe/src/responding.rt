@@ -10,7 +10,8 @@ ghost use Rattle.cronsafe.specs.Call.{Answers, IsReply, Leads};
 ghost use Rattle.cronsafe.specs.Turn.{ReadsAsked, ReadsInTurn, WarnsOf, WarnsOn};
 
 use cs_args::{
-    Question, ReplayWords, Request, RunWords, StatusWords, StopWords, UsageFault, parse_words,
+    Question, ReloadWords, ReplayWords, Request, RunWords, StatusWords, StopWords, UsageFault,
+    parse_words,
 };
 use cs_civil::Bytes;
 use cs_cli::{Wanted, answer_judge, wanted_of};
@@ -31,7 +32,7 @@ pub(crate) enum Task<'a> {
     Run(RunWords<'a>, Claimed),
     Judge(Wanted, Planned),
     Stop(StopWords<'a>),
-    Reload(&'a str),
+    Reload(ReloadWords<'a>),
     Status(StatusWords<'a>),
     /// A subcommand of the aids.
     Aid,
@@ -82,7 +83,7 @@ fn find_task<'a, I: Inputs, E: Output>(
             Ok(Task::Judge(wanted_of(words.compact), planned))
         }
         Request::Stop(words) => Ok(Task::Stop(words)),
-        Request::Reload(folder) => Ok(Task::Reload(folder)),
+        Request::Reload(words) => Ok(Task::Reload(words)),
         Request::Status(words) => Ok(Task::Status(words)),
         Request::Advise(_words) => Ok(Task::Aid),
         Request::Room(_words) => Ok(Task::Aid),
@@ -120,7 +121,7 @@ fn answer<'a, R: Threads + Sync>(
             Ok(Answer::Ends(answer_judge(rt, alloc, &planned, wanted)?))
         }
         Task::Stop(words) => Ok(Answer::Stops(words)),
-        Task::Reload(folder) => Ok(Answer::Reloads(folder)),
+        Task::Reload(words) => Ok(Answer::Reloads(words)),
         Task::Status(words) => Ok(Answer::Tells(words)),
         Task::Aid => Ok(Answer::Ends(elsewhere(alloc)?)),
     }

@@ -50,7 +50,7 @@ fn carry_out<
         Answer::Ends(response) => finish(&response, out, err),
         Answer::Runs(order) => serve(rt, alloc, order, streams, out, err, new_runner),
         Answer::Stops(words) => stop(rt, alloc, words, out, err),
-        Answer::Reloads(folder) => reload(rt, alloc, folder, out, err),
+        Answer::Reloads(words) => reload(rt, alloc, words, out, err),
         Answer::Tells(words) => tell_status(rt, alloc, words, out, err),
     }
 }

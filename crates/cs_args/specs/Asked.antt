@@ -16,6 +16,7 @@ use Rattle.cs_args.specs.declared.request.Request.TheVariants as request
 use Rattle.cs_args.specs.declared.request.Request.{Request}
 use Rattle.cs_args.specs.declared.request.RunWords.{RunWords}
 use Rattle.cs_args.specs.declared.request.StatusWords.{StatusWords}
+use Rattle.cs_args.specs.declared.request.ReloadWords.{ReloadWords}
 use Rattle.cs_args.specs.declared.request.StopWords.{StopWords}
 
 abbrev pub Text : Type 0
@@ -53,12 +54,18 @@ pub record AskedRun : Type 0 where
   pub output : Option Text
   pub keep : Option ℕ
   pub home : Bool
+  pub enforce : Bool
   pub on_overrun : Option Text
   pub on_failure : Option Text
+  pub on_limit : Option Text
 
 pub record AskedStop : Type 0 where
   pub stamps : Text
   pub now : Bool
+
+pub record AskedReload : Type 0 where
+  pub stamps : Text
+  pub drain : Bool
 
 pub record AskedStatus : Type 0 where
   pub stamps : Text
@@ -117,7 +124,7 @@ pub data Asking : Type 0 where
   Check : AskedCheck → Asking
   Run : AskedRun → Asking
   Stop : AskedStop → Asking
-  Reload : Text → Asking
+  Reload : AskedReload → Asking
   Status : AskedStatus → Asking
   Judge : AskedJudge → Asking
   Make : AskedMake → Asking
@@ -170,12 +177,17 @@ asked_run r = record {
   output = option_map (λ path. path.now) r.output;
   keep = r.keep;
   home = r.home;
+  enforce = r.enforce;
   on_overrun = option_map (λ command. command.now) r.on_overrun;
   on_failure = option_map (λ command. command.now) r.on_failure;
+  on_limit = option_map (λ command. command.now) r.on_limit;
 }
 
 abbrev pub asked_stop : StopWords → AskedStop
 asked_stop s = record { stamps = s.stamps.now; now = s.now }
+
+abbrev pub asked_reload : ReloadWords → AskedReload
+asked_reload r = record { stamps = r.stamps.now; drain = r.drain }
 
 abbrev pub asked_status : StatusWords → AskedStatus
 asked_status s = record { stamps = s.stamps.now; json = s.json }
@@ -241,7 +253,7 @@ asking (request.Replay r) = Replay (asked_replay r)
 asking (request.Check c) = Check (asked_check c)
 asking (request.Run r) = Run (asked_run r)
 asking (request.Stop s) = Stop (asked_stop s)
-asking (request.Reload stamps) = Reload stamps.now
+asking (request.Reload r) = Reload (asked_reload r)
 asking (request.Status s) = Status (asked_status s)
 asking (request.Judge j) = Judge (asked_judge j)
 asking (request.Make m) = Make (asked_make m)

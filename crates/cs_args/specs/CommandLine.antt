@@ -13,7 +13,7 @@ use Rattle.clap.specs.declared.error.Error.{Error}
 use Rattle.clap.specs.declared.error.kind.ErrorKind.{ErrorKind}
 use Rattle.clap.specs.declared.error.kind.ErrorKind.TheVariants.{DisplayHelp, DisplayVersion}
 use Rattle.clap.specs.declared.error.kind.ErrorKind.TheVariants as kind
-use Rattle.cs_args.specs.Asked.{Asked, AskedAdvise, AskedChart, AskedCheck, AskedDraft, AskedGather, AskedJudge, AskedLearn, AskedLint, AskedMake, AskedReplay, AskedRun, AskedStatus, AskedStop, Text, asking}
+use Rattle.cs_args.specs.Asked.{Asked, AskedAdvise, AskedChart, AskedCheck, AskedDraft, AskedGather, AskedJudge, AskedLearn, AskedLint, AskedMake, AskedReload, AskedReplay, AskedRun, AskedStatus, AskedStop, Text, asking}
 use Rattle.cs_args.specs.Asked.{Advise, Asking, Chart, Check, Day, Draft, Explain, Gather, Help as HelpAsking, Judge, Learn, Lint, Make, Reload, Replay, Room, Run, Status, Stop}
 use Rattle.cs_args.specs.declared.request.Request.{Request}
 use Rattle.cs_args.specs.declared.request.UsageFault.TheVariants.{Help, NoCall, OutOfMemory, Version}
@@ -61,10 +61,10 @@ usage_of subcommand.Run = (
   codes "run",
   word "TABLE" ∷ word "DECLS" ∷ word "CERT" ∷ word "STAMPS" ∷ value "anacrontab" ∷
       value "minutes" ∷ value "log" ∷ value "output" ∷ value "keep" ∷ flag "home" ∷
-      value "on-overrun" ∷ value "on-failure" ∷ [],
+      flag "enforce" ∷ value "on-overrun" ∷ value "on-failure" ∷ value "on-limit" ∷ [],
 )
 usage_of subcommand.Stop = (codes "stop", word "STAMPS" ∷ flag "now" ∷ [])
-usage_of subcommand.Reload = (codes "reload", word "STAMPS" ∷ [])
+usage_of subcommand.Reload = (codes "reload", word "STAMPS" ∷ flag "drain" ∷ [])
 usage_of subcommand.Status = (codes "status", word "STAMPS" ∷ flag "json" ∷ [])
 usage_of subcommand.Gather = (codes "gather", value "root" ∷ values "system" ∷ values "user" ∷ [])
 usage_of subcommand.Draft = (
@@ -272,14 +272,19 @@ asked_in subcommand.Run rows = Run (record {
   output = first_of (codes "output") rows;
   keep = optional_number (codes "keep") rows;
   home = has_flag (codes "home") rows;
+  enforce = has_flag (codes "enforce") rows;
   on_overrun = first_of (codes "on-overrun") rows;
   on_failure = first_of (codes "on-failure") rows;
+  on_limit = first_of (codes "on-limit") rows;
 })
 asked_in subcommand.Stop rows = Stop (record {
   stamps = value_or [] (codes "STAMPS") rows;
   now = has_flag (codes "now") rows;
 })
-asked_in subcommand.Reload rows = Reload (value_or [] (codes "STAMPS") rows)
+asked_in subcommand.Reload rows = Reload (record {
+  stamps = value_or [] (codes "STAMPS") rows;
+  drain = has_flag (codes "drain") rows;
+})
 asked_in subcommand.Status rows = Status (record {
   stamps = value_or [] (codes "STAMPS") rows;
   json = has_flag (codes "json") rows;

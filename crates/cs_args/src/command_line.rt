@@ -3,9 +3,10 @@ ghost use Rattle.std.specs.Prelude.{◌≡◌, IfOk, Some, count_by, is_some, ma
 ghost use Rattle.std.specs.Char.{is_ascii_digit};
 ghost use Rattle.std.specs.List.{list_all};
 ghost use Rattle.clap.specs.Words.{first_of, found_of, rows_of};
-ghost use Rattle.cs_args.specs.Asked.{Chart, Draft, Gather, Learn, Lint, Replay, Run};
-ghost use Rattle.cs_args.specs.Asked.{asked, asked_chart, asked_check, asked_gather, asked_judge};
-ghost use Rattle.cs_args.specs.Asked.{asked_draft, asked_learn, asked_lint, asked_replay, asked_run};
+ghost use Rattle.cs_args.specs.Asked.{Advise, Chart, Draft, Gather, Learn, Lint, Replay, Run};
+ghost use Rattle.cs_args.specs.Asked.{asked, asked_advise, asked_chart, asked_check, asked_draft};
+ghost use Rattle.cs_args.specs.Asked.{asked_gather, asked_judge, asked_learn, asked_lint};
+ghost use Rattle.cs_args.specs.Asked.{asked_replay, asked_run};
 ghost use Rattle.cs_args.specs.CommandLine.{Answers, FaultOf, Parses, asked_by, asked_in, check_in};
 ghost use Rattle.cs_args.specs.CommandLine.{day_in, has_flag, has_no_number, has_unknown_name};
 ghost use Rattle.cs_args.specs.CommandLine.{is_dash, is_given, is_misfit, is_twice_standard};
@@ -17,7 +18,8 @@ ghost use Rattle.cs_args.specs.declared.table.Subcommand.TheVariants as subcomma
 use crate::commands::command;
 use crate::request::{
     AdviseWords, ChartWords, CheckWords, DayWords, DraftWords, GatherWords, JudgeWords, LearnWords,
-    LintWords, MakeWords, ReplayWords, Request, RunWords, StatusWords, StopWords, UsageFault,
+    LintWords, MakeWords, ReloadWords, ReplayWords, Request, RunWords, StatusWords, StopWords,
+    UsageFault,
 };
 use crate::table::Subcommand;
 use clap::error::ErrorKind;
@@ -341,8 +343,10 @@ impl<'a, 'm> Given<'a, 'm> {
             output: self.value("output"),
             keep: self.optional_number("keep"),
             home: self.has_flag("home"),
+            enforce: self.has_flag("enforce"),
             on_overrun: self.value("on-overrun"),
             on_failure: self.value("on-failure"),
+            on_limit: self.value("on-limit"),
         }
     }
 
@@ -354,6 +358,17 @@ impl<'a, 'm> Given<'a, 'm> {
             table: self.text("TABLE", ""),
             declarations: self.text("DECLS", ""),
             anacrontab: self.value("anacrontab"),
+        }
+    }
+
+    fn advise(self) -> AdviseWords<'a>
+        ensures { Advise (asked_advise result)
+            ≡ asked_in subcommand.Advise (words_given self.entry) }
+    {
+        AdviseWords {
+            judge: self.judge(),
+            within: self.number("within", 120),
+            first: self.optional_number("first"),
         }
     }
 
@@ -433,18 +448,17 @@ impl<'a, 'm> Given<'a, 'm> {
                 judge: self.judge(),
                 compact: self.has_flag("compact"),
             })),
-            Subcommand::Advise => Ok(Request::Advise(AdviseWords {
-                judge: self.judge(),
-                within: self.number("within", 120),
-                first: self.optional_number("first"),
-            })),
+            Subcommand::Advise => Ok(Request::Advise(self.advise())),
             Subcommand::Room => Ok(Request::Room(self.judge())),
             Subcommand::Run => Ok(Request::Run(self.run())),
             Subcommand::Stop => Ok(Request::Stop(StopWords {
                 stamps,
                 now: self.has_flag("now"),
             })),
-            Subcommand::Reload => Ok(Request::Reload(stamps)),
+            Subcommand::Reload => Ok(Request::Reload(ReloadWords {
+                stamps,
+                drain: self.has_flag("drain"),
+            })),
             Subcommand::Status => Ok(Request::Status(StatusWords {
                 stamps,
                 json: self.has_flag("json"),

@@ -13,6 +13,7 @@ pub use command_line::parse_words;
 pub use question::{Question, WordFault};
 pub use request::{
     AdviseWords, ChartWords, CheckWords, DayWords, DraftWords, GatherWords, JudgeWords, LearnWords,
-    LintWords, MakeWords, ReplayWords, Request, RunWords, StatusWords, StopWords, UsageFault,
+    LintWords, MakeWords, ReloadWords, ReplayWords, Request, RunWords, StatusWords, StopWords,
+    UsageFault,
 };
 pub use version::version_text;

@@ -74,10 +74,14 @@ pub struct RunWords<'a> {
     /// Whether commands run with HOME, LOGNAME and USER of the user that cronsafe runs as, in that
     /// user's home folder.
     pub home: bool,
+    /// Whether runs are ended before their longest time is over.
+    pub enforce: bool,
     /// The shell command that is started when a run passes its longest time.
     pub on_overrun: Option<&'a str>,
     /// The shell command that is started when a run can't be started, or doesn't end with status 0.
     pub on_failure: Option<&'a str>,
+    /// The shell command that is started when `enforce` ended a run.
+    pub on_limit: Option<&'a str>,
 }
 
 /// What `stop` is asked.
@@ -87,6 +91,15 @@ pub struct StopWords<'a> {
     pub stamps: &'a str,
     /// Whether the call doesn't wait for the daemon's end.
     pub now: bool,
+}
+
+/// What `reload` is asked.
+#[derive(Clone, Copy)]
+pub struct ReloadWords<'a> {
+    /// The path of the folder of stamps that the daemon uses.
+    pub stamps: &'a str,
+    /// Whether the daemon starts nothing more by its old plan.
+    pub drain: bool,
 }
 
 /// What `status` is asked.
@@ -211,8 +224,8 @@ pub enum Request<'a> {
     Run(RunWords<'a>),
     /// The end of a daemon.
     Stop(StopWords<'a>),
-    /// That a daemon reads its files again: the path of the folder of stamps that it uses.
-    Reload(&'a str),
+    /// That a daemon reads its files again.
+    Reload(ReloadWords<'a>),
     /// What a daemon does.
     Status(StatusWords<'a>),
     /// Whether a plan is safe, or a history that breaks it.

@@ -66,7 +66,7 @@ static ADVISE: [Argument; 5] = [
     Argument("first", Value("N"), texts::FIRST_HELP),
 ];
 
-static RUN: [Argument; 12] = [
+static RUN: [Argument; 14] = [
     TABLE,
     DECLS,
     CERT,
@@ -77,13 +77,15 @@ static RUN: [Argument; 12] = [
     Argument("output", Value("FOLDER"), texts::OUTPUT_HELP),
     Argument("keep", Value("N"), texts::KEEP_HELP),
     Argument("home", Flag, texts::HOME_HELP),
+    Argument("enforce", Flag, texts::ENFORCE_HELP),
     Argument("on-overrun", Value("COMMAND"), texts::ON_OVERRUN_HELP),
     Argument("on-failure", Value("COMMAND"), texts::ON_FAILURE_HELP),
+    Argument("on-limit", Value("COMMAND"), texts::ON_LIMIT_HELP),
 ];
 
 static STOP: [Argument; 2] = [STAMPS, Argument("now", Flag, texts::NOW_HELP)];
 
-static RELOAD: [Argument; 1] = [STAMPS];
+static RELOAD: [Argument; 2] = [STAMPS, Argument("drain", Flag, texts::DRAIN_HELP)];
 
 static STATUS: [Argument; 2] = [STAMPS, Argument("json", Flag, texts::STATUS_JSON_HELP)];
 

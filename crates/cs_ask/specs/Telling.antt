@@ -1,11 +1,12 @@
 -- What comes of showing what the daemon of a folder of stamps does.
 use Rattle.std.specs.Prelude.{◌≡◌, ◌⊎◌, ◌++◌, ℕ, List, [], codes}
 use Rattle.cs_files.specs.Response.{Ending, complaint}
-use Rattle.cs_ask.specs.Asking.{refused}
+use Rattle.cs_ask.specs.Asking.{in_front_of, refused}
 use Rattle.cs_files.specs.Ending.{Ends, RunsOut, Sink}
 use Rattle.cs_ask.specs.declared.asking.Refusal.{Refusal}
+use Rattle.cs_ask.specs.declared.asking.Refusal.TheVariants.{NoDaemon}
 use Rattle.cs_ask.specs.declared.telling.Health.{Health}
-use Rattle.cs_ask.specs.declared.telling.Health.TheVariants.{Fine, Faulty, Old}
+use Rattle.cs_ask.specs.declared.telling.Health.TheVariants.{Fine, Faulty, Gone, Old}
 
 -- a state is too old, before the folder's path
 abbrev pub in_front_of_old : List ℕ
@@ -17,6 +18,8 @@ told_as Fine text folder = record { status = 0; out = text; err = [] }
 told_as Faulty text folder = record { status = 1; out = text; err = [] }
 told_as Old text folder =
     record { status = 2; out = text; err = complaint (in_front_of_old ++ folder) }
+told_as Gone text folder =
+    record { status = 2; out = text; err = complaint (in_front_of NoDaemon ++ folder) }
 
 -- a state is shown, or why there is none
 abbrev pub IsAnswer : List ℕ → Ending → Type 0

@@ -68,7 +68,7 @@ pub(crate) fn find_daemon<R: Files<File = File>>(
     if StampsFolder::open(rt, alloc, folder).is_err() {
         return Err(Refusal::NoFolder);
     }
-    match FolderLock::take(rt, folder) {
+    match FolderLock::probe(rt, alloc, folder) {
         Ok(_) => Err(Refusal::NoDaemon),
         Err(LockFault::Failed) => Err(Refusal::Unlocked),
         Err(LockFault::InUse) => Ok(()),

@@ -1,5 +1,5 @@
 -- What the answers to calls say of the bytes of their files.
-use Rattle.std.proofs.Common.{◌≡◌, ◌≢◌, ◌⊎◌, inl, inr, ℕ, ◌<◌, ◌≤◌, arith, Bool, true, false, List, [], ◌∷◌, ◌++◌, Option, Some, None, Result, Ok, Err, refl, ap, subst, sym, ◌∙◌}
+use Rattle.std.proofs.Common.{◌≡◌, ◌≢◌, ◌⊎◌, inl, inr, ℕ, ◌<◌, ◌≤◌, arith, Bool, true, false, List, Option, Some, None, Result, Ok, Err, refl, ap, subst, sym, ◌∙◌}
 use Rattle.std.specs.Prelude.{IfSome, position}
 use Rattle.clap.specs.Words.{Text}
 use Rattle.cs_crontab.specs.Crontab.{Table}
@@ -37,18 +37,20 @@ use Rattle.cs_files.specs.Reads.{AndThen, Gives, Makes, MeansEntries, MeansJobTa
 use Rattle.cs_files.specs.Asked.{IsPlanned, both_of}
 use Rattle.cs_files.specs.Response.{Ending}
 use Rattle.cs_files.specs.declared.asked.Planned.{Planned}
+use Rattle.cs_files.specs.declared.asked.Tables.{Tables}
 use Rattle.cs_files.proofs.TroubleLemmas.{placed}
 use Rattle.cs_claims.specs.Certificate.{content}
 use Rattle.cs_claims.specs.Content.{Content}
 use Rattle.cs_files.specs.Trouble.{InAnacrontab, InCertificate, InCrontab, InDeclarations, InGathered, InScript, InWords, NoTimeZone, Trouble, Unread, trouble_status}
-use Rattle.cs_ruling.specs.Answer.{AnswersRun, IsOfOthers}
+use Rattle.cs_owner.specs.Owners.{AreOwnersOf, IsUnowned}
+use Rattle.cs_ruling.specs.Answer.{AnswersRun, IsOfNobody}
 use Rattle.cs_ruling.specs.Check.{AnswersCheck, FindsClaimed, IsClaimed, verdict_text}
 use Rattle.cs_cli.specs.Judge.{AnswersJudge, AnswersMake, AnswersWanted, IsJudged, outcome_status, wanted_of}
 use Rattle.cs_ruling.specs.Safe.{IsAccepted, IsChecked}
 use Rattle.cs_ruling.specs.declared.answer.Answer.TheVariants.{Runs}
 use Rattle.cs_ruling.specs.declared.check.Claimed.{Claimed}
 use Rattle.cs_ruling.proofs.CheckLemmas.{digests_of}
-use Rattle.cs_cli.specs.Theorem.{DenoteJobs, DenotesPlan, Given, Hold, HoldsIt, IsCalmSchedule, IsGatheredSchedule, IsJudgedSafe, IsJudgedUnknown, IsJudgedUnsafe, IsOrdered, IsPrintedSchedule, IsRefused, IsSafeSchedule}
+use Rattle.cs_cli.specs.Theorem.{DenoteJobs, DenotesPlan, Given, Hold, HoldsIt, IsCalmSchedule, IsUnownedSchedule, IsJudgedSafe, IsJudgedUnknown, IsJudgedUnsafe, IsOrdered, IsPrintedSchedule, IsRefused, IsSafeSchedule}
 use Rattle.cs_place.specs.Places.{places_of}
 use Rattle.cs_place.specs.declared.places.Place.{Place}
 use Rattle.cs_ruling.specs.declared.answer.Order.{Order}
@@ -133,12 +135,24 @@ plan_of files table anacrontab declarations w failed given x hold is =
 
 -- ---- `check`, and an order to run
 
+same_plan : (given : Given) (plan other : Declared) → DenotesPlan given plan → plan ≡ other → DenotesPlan given other
+same_plan given plan other is same = record {
+  crontab = is.crontab;
+  is_crontab = is.is_crontab;
+  anacrontab = is.anacrontab;
+  is_anacrontab = is.is_anacrontab;
+  entries = is.entries;
+  are_entries = is.are_entries;
+  joins = subst (λ (p : Declared). joined is.crontab is.anacrontab is.entries ≡ Ok p) same is.joins;
+  fits = is.fits;
+}
+
 schedule : (files : List ℕ → Option (List ℕ)) (a : AskedCheck) (w : List ℕ) (failed : Failed) (x : Claimed) (checked : Checked) (given : Given) (certificate : List ℕ)
     → Hold files a.table a.anacrontab a.declarations given → files a.certificate ≡ Some certificate
     → IsClaimed files a w failed x → IsAccepted x checked → IsSafeSchedule given certificate
 schedule files a w failed x checked given certificate hold holds read accepted = record {
   plan = plan_in checked;
-  is_plan = subst (DenotesPlan given) (sym accepted.plan) (plan_of files a.table a.anacrontab a.declarations w failed given x.planned hold read.planned);
+  is_plan = same_plan given x.planned.plan (plan_in checked) (plan_of files a.table a.anacrontab a.declarations w failed given x.planned hold read.planned) (sym accepted.plan);
   content = certificate_in checked;
   is_certificate = subst (λ (c : Content). certificate_by certificate ≡ Ok c) (sym accepted.certificate) (file_means files a.certificate (λ bytes c. certificate_by bytes ≡ c) InCertificate failed failed (content x.certificate) certificate holds read.certificate);
   accepted = checked.kept;
@@ -160,16 +174,26 @@ pub checked_schedule : (files : List ℕ → Option (List ℕ)) (a : AskedCheck)
 checked_schedule files a w before after ending given certificate hold holds answered zero =
     let s = answered.safe zero in calm_schedule files a w before s.claimed s.checked given certificate hold holds s.read s.accepted
 
+-- from what was read to the bytes of the crontab
+of_bytes : (P : List ℕ → List Place → Type 0) (files : List ℕ → Option (List ℕ)) (path : Text) (bytes : List ℕ) (planned : Planned) (tables : Tables)
+    → files path ≡ Some bytes → IfSome (files path) (λ held. tables.text ≡ held) → planned.table ≡ tables.text → planned.places ≡ tables.places
+    → tables.places ≡ places_of tables.text tables.crontab → P planned.table planned.places → P bytes (places_of bytes tables.crontab)
+of_bytes P files path bytes planned tables holds held table places placed is =
+    let text : tables.text ≡ bytes = subst (λ (o : Option (List ℕ)). IfSome o (λ held. tables.text ≡ held)) holds held in
+    let here : P tables.text (places_of tables.text tables.crontab) =
+    subst (λ (ps : List Place). P tables.text ps) (places ∙ placed) (subst (λ (t : List ℕ). P t planned.places) table is) in
+    subst (λ (t : List ℕ). P t (places_of t tables.crontab)) text here
+
 pub ordered_schedule : (files : List ℕ → Option (List ℕ)) (a : AskedRun) (w : List ℕ) (before after : Failed) (order : Order) (given : Given) (certificate : List ℕ)
     → Hold files a.check.table a.check.anacrontab a.check.declarations given → files a.check.certificate ≡ Some certificate
     → AnswersRun a files w before after (Runs order) → IsOrdered given certificate a order
-unfolding schedule
+unfolding schedule same_plan plan_of plan_denoted
 ordered_schedule files a w before after order given certificate hold holds (inl (t, read, ends)) = absurd ends
 ordered_schedule files a w before after order given certificate hold holds (inr (x, (same, read), ordered)) = record {
   schedule = schedule files a.check w before x order.checked given certificate hold holds read ordered.accepted;
   plan = refl;
   content = refl;
-  own = ordered.own;
+  owners = of_bytes (λ text places. AreOwnersOf text places (plan_in order.checked).crontab order.owners) files a.check.table given.crontab x.planned read.planned.tables hold.crontab read.planned.read.text.1 read.planned.same_table read.planned.same_places read.planned.read.places ordered.owners;
   words = ordered.words;
   digests = ordered.digests ∙ digests_of files a.check (content x.certificate) x.digests given.crontab given.declarations certificate hold.crontab hold.declarations holds read.digests;
 }
@@ -179,19 +203,20 @@ pub ordered_checked : (files : List ℕ → Option (List ℕ)) (a : AskedRun) (w
 ordered_checked files a w before after order (inl (t, read, ends)) = absurd ends
 ordered_checked files a w before after order (inr (x, read, ordered)) = (_, inr (x, read, ordered.accepted.verdict), refl, sym ordered.notes)
 
-pub gathered_schedule : (files : List ℕ → Option (List ℕ)) (a : AskedRun) (w : List ℕ) (before after : Failed) (x : Claimed) (ending : Ending) (given : Given) (certificate : List ℕ)
+pub unowned_schedule : (files : List ℕ → Option (List ℕ)) (a : AskedRun) (w : List ℕ) (before after : Failed) (x : Claimed) (ending : Ending) (given : Given) (certificate : List ℕ)
     → Hold files a.check.table a.check.anacrontab a.check.declarations given → files a.check.certificate ≡ Some certificate
-    → FindsClaimed files a.check w before after (Ok x) → IsOfOthers x ending → IsGatheredSchedule given certificate ending
-unfolding calm_schedule schedule
-gathered_schedule files a w before after x ending given certificate hold holds (same, read) of_others = record {
-  schedule = calm_schedule files a.check w before x of_others.checked given certificate hold holds read of_others.accepted;
-  gathered = of_others.gathered;
-  told = (ap (λ (e : Ending). e.status) of_others.told, ap (λ (e : Ending). e.out) of_others.told);
+    → FindsClaimed files a.check w before after (Ok x) → IsOfNobody x ending → IsUnownedSchedule given certificate ending
+unfolding calm_schedule schedule same_plan plan_of plan_denoted
+unowned_schedule files a w before after x ending given certificate hold holds (same, read) of_nobody = record {
+  schedule = calm_schedule files a.check w before x of_nobody.checked given certificate hold holds read of_nobody.accepted;
+  fault = of_nobody.fault;
+  unowned = of_bytes (λ text places. IsUnowned text places (plan_in of_nobody.checked).crontab of_nobody.fault) files a.check.table given.crontab x.planned read.planned.tables hold.crontab read.planned.read.text.1 read.planned.same_table read.planned.same_places read.planned.read.places of_nobody.unowned;
+  told = of_nobody.told;
 }
 
-pub gathered_checked : (files : List ℕ → Option (List ℕ)) (a : AskedRun) (w : List ℕ) (before after : Failed) (x : Claimed) (ending : Ending)
-    → FindsClaimed files a.check w before after (Ok x) → IsOfOthers x ending → (answer : Ending) × AnswersCheck a.check files w before after answer × (answer.status ≡ 0)
-gathered_checked files a w before after x ending read of_others = (_, inr (x, read, of_others.accepted.verdict), refl)
+pub unowned_checked : (files : List ℕ → Option (List ℕ)) (a : AskedRun) (w : List ℕ) (before after : Failed) (x : Claimed) (ending : Ending)
+    → FindsClaimed files a.check w before after (Ok x) → IsOfNobody x ending → (answer : Ending) × AnswersCheck a.check files w before after answer × (answer.status ≡ 0)
+unowned_checked files a w before after x ending read of_nobody = (_, inr (x, read, of_nobody.accepted.verdict), refl)
 
 -- ---- `judge` and `make`
 

@@ -1,12 +1,13 @@
 -- What the words of `check`, `judge`, `make` and `run` say of the bytes of their files.
-use Rattle.std.specs.Prelude.{◌≡◌, ◌⊎◌, ℕ, true, false, List, [], ◌∷◌, ◌++◌, Option, Some, None, Ok, ⊤, position}
+use Rattle.std.specs.Prelude.{◌≡◌, ◌⊎◌, ℕ, List, [], ◌∷◌, ◌++◌, Option, Some, None, Ok, ⊤, position}
 use Rattle.clap.specs.Words.{Text}
 use Rattle.sha2.specs.Sha256.{sha256}
 use Rattle.cs_crontab.specs.Crontab.{Table}
 use Rattle.cs_crontab.specs.Faults.{Means}
 use Rattle.cs_anacrontab.specs.Anacrontab.{Table as JobTable, no_lines as no_jobs}
 use Rattle.cs_anacrontab.specs.Faults.{Means as MeansJobs}
-use Rattle.cs_place.specs.Mark.{is_gathered}
+use Rattle.cs_owner.specs.Owners.{AreOwnersOf, IsUnowned}
+use Rattle.cs_owner.specs.declared.owners.Unowned.{Unowned}
 use Rattle.cs_place.specs.Places.{places_of}
 use Rattle.cs_place.specs.declared.places.Place.{Place}
 use Rattle.cs_history.specs.Plan.{IsReached}
@@ -29,6 +30,7 @@ use Rattle.cs_judge.specs.Answer.{IsUnknownText, IsUnsafeText, unknown_text}
 use Rattle.cs_args.specs.Asked.{asked_run, AskedRun}
 use Rattle.cs_files.specs.Fitting.{has_other_parts}
 use Rattle.cs_files.specs.Response.{Ending}
+use Rattle.cs_ruling.specs.Answer.{Refuses}
 use Rattle.cs_ruling.specs.Check.{verdict_text}
 use Rattle.cs_ruling.specs.declared.answer.Order.{Order}
 
@@ -95,14 +97,15 @@ pub record IsCalmSchedule (given : Given) (certificate : List ℕ) : Type 0 wher
   pub schedule : IsSafeSchedule given certificate
   pub calm : IsCalmPlan schedule.plan schedule.content
 
--- an order to run is of such a plan and certificate, of a crontab that wasn't gathered, as it was
--- asked, with the SHA-256 (FIPS 180-4) of the crontab, the declarations and the certificate
+-- an order to run is of such a plan and certificate, as it was asked, with the owners of the
+-- commands and the SHA-256 (FIPS 180-4) of the crontab, the declarations and the certificate
 pub record IsOrdered (given : Given) (certificate : List ℕ) (a : AskedRun) (order : Order) : Type 0
   where
     pub schedule : IsSafeSchedule given certificate
     pub plan : plan_in order.checked ≡ schedule.plan
     pub content : certificate_in order.checked ≡ schedule.content
-    pub own : is_gathered schedule.plan.crontab.settings ≡ false
+    pub owners : AreOwnersOf given.crontab
+        (places_of given.crontab schedule.is_plan.crontab) schedule.plan.crontab order.owners
     pub words : asked_run order.words ≡ a
     pub digests : order.digests ≡ record {
       table = sha256 given.crontab;
@@ -110,12 +113,14 @@ pub record IsOrdered (given : Given) (certificate : List ℕ) (a : AskedRun) (or
       certificate = sha256 certificate;
     }
 
--- the crontab of such a plan was gathered, which is reported on standard error alone
-pub record IsGatheredSchedule (given : Given) (certificate : List ℕ) (ending : Ending) : Type 0
-  where
-    pub schedule : IsCalmSchedule given certificate
-    pub gathered : is_gathered schedule.schedule.plan.crontab.settings ≡ true
-    pub told : (ending.status ≡ 3) × (ending.out ≡ [])
+-- a command of the gathered crontab of such a plan lacks an owner, which is reported
+pub record IsUnownedSchedule (given : Given) (certificate : List ℕ) (ending : Ending) : Type 0 where
+  pub schedule : IsCalmSchedule given certificate
+  pub fault : Unowned
+  pub unowned : IsUnowned given.crontab
+      (places_of given.crontab schedule.schedule.is_plan.crontab) schedule.schedule.plan.crontab
+      fault
+  pub told : Refuses fault ending
 
 -- the text is a line, of a certificate with which what is given is such a schedule
 pub record IsPrintedSchedule (given : Given) (text : List ℕ) : Type 0 where

@@ -13,11 +13,11 @@ ghost use Rattle.cs_plan.specs.Plan.{Declared, IsWhole, as_plan};
 ghost use Rattle.cs_io.specs.Files.{Failed};
 ghost use Rattle.cs_files.specs.Response.{Ending};
 ghost use Rattle.cs_theorem.specs.Accepted.{IsAccepted};
-ghost use Rattle.cs_ruling.specs.Answer.{AnswersRun, IsOfOthers};
+ghost use Rattle.cs_ruling.specs.Answer.{AnswersRun, IsOfNobody};
 ghost use Rattle.cs_cli.specs.Judge.{AnswersJudge, AnswersMake};
 ghost use Rattle.cs_ruling.specs.Check.{AnswersCheck, FindsClaimed};
 ghost use Rattle.cs_ruling.specs.Safe.{IsChecked};
-ghost use Rattle.cs_cli.specs.Theorem.{Given, Hold, IsCalmSchedule, IsGatheredSchedule};
+ghost use Rattle.cs_cli.specs.Theorem.{Given, Hold, IsCalmSchedule, IsUnownedSchedule};
 ghost use Rattle.cs_cli.specs.Theorem.{IsJudgedSafe, IsJudgedUnknown, IsJudgedUnsafe};
 ghost use Rattle.cs_cli.specs.Theorem.{IsOrdered, IsPrintedSchedule};
 ghost use Rattle.cs_ruling.specs.declared.answer.Answer.TheVariants.{Runs};
@@ -37,8 +37,8 @@ pub fn what_check_says()
 {}
 
 /// Lemma. An order to run is of such a plan, with such a certificate, and `check` would end with
-/// status 0 and warn of the same. Where `run` refuses a crontab since it was gathered, the plan is
-/// such a one too, and `check` would end with status 0.
+/// status 0 and warn of the same. Where `run` refuses a crontab since a command has no owner, the
+/// plan is such a one too, and `check` would end with status 0.
 pub fn what_an_order_says()
     ensures order { (files : List ℕ → Option (List ℕ)) (a : AskedRun) (w : List ℕ)
         (before after : Failed) (order : Order) (given : Given) (certificate : List ℕ)
@@ -49,16 +49,16 @@ pub fn what_an_order_says()
         (before after : Failed) (order : Order) → AnswersRun a files w before after (Runs order)
         → (answer : Ending) × AnswersCheck a.check files w before after answer
         × (answer.status ≡ 0) × (answer.err ≡ order.warnings) }
-    ensures gathered { (files : List ℕ → Option (List ℕ)) (a : AskedRun) (w : List ℕ)
+    ensures unowned { (files : List ℕ → Option (List ℕ)) (a : AskedRun) (w : List ℕ)
         (before after : Failed) (x : Claimed) (ending : Ending) (given : Given)
         (certificate : List ℕ)
         → Hold files a.check.table a.check.anacrontab a.check.declarations given
         → files a.check.certificate ≡ Some certificate
         → FindsClaimed files a.check w before after (Ok x)
-        → IsOfOthers x ending → IsGatheredSchedule given certificate ending }
-    ensures gathered_checked { (files : List ℕ → Option (List ℕ)) (a : AskedRun) (w : List ℕ)
+        → IsOfNobody x ending → IsUnownedSchedule given certificate ending }
+    ensures unowned_checked { (files : List ℕ → Option (List ℕ)) (a : AskedRun) (w : List ℕ)
         (before after : Failed) (x : Claimed) (ending : Ending)
-        → FindsClaimed files a.check w before after (Ok x) → IsOfOthers x ending
+        → FindsClaimed files a.check w before after (Ok x) → IsOfNobody x ending
         → (answer : Ending) × AnswersCheck a.check files w before after answer
         × (answer.status ≡ 0) }
 {}

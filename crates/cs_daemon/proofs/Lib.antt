@@ -2,7 +2,9 @@ pub mod Carrying
 pub mod Causing
 pub mod Ending
 pub mod Handing
+pub mod Lateness
 pub mod Naming
+pub mod Resting
 pub mod Shelving
 pub mod Storing
 pub mod Taking

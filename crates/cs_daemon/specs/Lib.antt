@@ -1,7 +1,9 @@
 pub mod Causes
 pub mod Deeds
 pub mod InTurn
+pub mod Late
 pub mod NoPlan
+pub mod Rest
 pub mod Shelf
 pub mod Stamps
 pub mod Starts

@@ -1,8 +1,9 @@
 -- The starts of a journal, which workers take one after the other.
-use Rattle.std.specs.Prelude.{◌≡◌, ◌≤◌, ◌⊎◌, ℕ, List, [], ◌∷◌, ◌++◌, length, drop, false, if◌then◌else◌, Option, MatchOption, Result}
+use Rattle.std.specs.Prelude.{◌≡◌, ◌≤◌, ◌⊎◌, ℕ, List, [], ◌∷◌, ◌++◌, length, drop, false, find, if◌then◌else◌, Option, MatchOption, Result, option_map, unwrap_or}
 use Rattle.std.specs.List.{AllByRecursion, flat_map, list_any}
 use Rattle.cs_history.specs.History.{same_run}
 use Rattle.cs_history.specs.declared.run.Run.{Run}
+use Rattle.cs_history.specs.declared.run.Going.{Going}
 use Rattle.cs_history.specs.declared.event.Event.{Event}
 use Rattle.cs_history.specs.declared.event.Event.TheVariants as event
 use Rattle.cs_history.specs.declared.reply.Reply.{Reply}
@@ -48,6 +49,11 @@ pub record IsTaken (old : Desk) (got : Option Run) (new : Desk) : Type 0 where
   pub first : MatchOption got
       ((untaken old ≡ []) × (untaken new ≡ []))
       (λ run. untaken old ≡ run ∷ untaken new)
+
+-- the minute in which a run began; that of its name, if it doesn't run
+abbrev pub since_in : List Going → Run → ℕ
+since_in running run =
+    unwrap_or (option_map (λ x. x.since) (find (λ x. same_run run x.run) running)) run.at
 
 abbrev pub with_entries : List (Event × Reply) → Desk → Desk
 with_entries more d = record { journal = d.journal ++ more; next = d.next }

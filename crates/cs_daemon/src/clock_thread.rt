@@ -29,7 +29,7 @@ pub(crate) struct ClockEnd<J: PlanLedger> {
 }
 
 impl<'w, J: PlanLedger, T: Ledger, R: Wait, G, O: io::Write> Shared<'w, J, T, R, G, O> {
-    /// Follows the clock from its first minute to the end, goes down, and lets the workers end.
+    /// Follows the clock from its first minute to the end, goes down, and sees the last runs end.
     /// Without a first minute it makes no event.
     #[tactic(auto, using(crate::proofs::Storing::none_written))]
     pub(crate) fn lead<C: Clock, S: StampStore>(
@@ -65,6 +65,7 @@ impl<'w, J: PlanLedger, T: Ledger, R: Wait, G, O: io::Write> Shared<'w, J, T, R,
             None => Cause::NoMemory,
         };
         self.go_down(&mut seat);
+        self.see_off(clock);
         ClockEnd { cause, seat }
     }
 
@@ -110,6 +111,9 @@ impl<'w, J: PlanLedger, T: Ledger, R: Wait, G, O: io::Write> Shared<'w, J, T, R,
                 return cause;
             }
             last = minute;
+            if self.leaves_off(clock) {
+                return Cause::Stopped;
+            }
         }
         unreachable!()
     }

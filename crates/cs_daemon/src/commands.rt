@@ -6,6 +6,7 @@ use crate::dispatch::Taken;
 use cs_device::{Outcome, Runner};
 use cs_history::Run;
 use cs_jobs::run_command;
+use cs_owner::Owner;
 use cs_plan::Plan;
 use std::alloc::Global;
 use std::marker::Model;
@@ -37,16 +38,17 @@ impl Returned {
 pub(crate) fn carry_out<W: Runner>(
     alloc: Global,
     plan: &Plan,
+    owners: &[Owner],
     runner: &mut W,
     taken: Taken,
 ) -> (Returned, Outcome)
-    ensures run { result.0 ≡ taken }
-    ensures runs { CarriesOut W.runs plan.now taken runner.old result.1 runner.new }
+    ensures run { result.0 ≡ taken.run }
+    ensures runs { CarriesOut W.runs plan.now owners.now taken runner.old result.1 runner.new }
 {
-    let run = taken.into_run();
-    let outcome = match run_command(alloc, plan, runner, run) {
+    let going = taken.into_going();
+    let outcome = match run_command(alloc, plan, owners, runner, going) {
         Ok(outcome) => outcome,
         Err(_) => Outcome::NotStarted,
     };
-    (Returned { run }, outcome)
+    (Returned { run: going.run }, outcome)
 }

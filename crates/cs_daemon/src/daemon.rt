@@ -4,6 +4,7 @@ ghost use Rattle.arrayvec.specs.ArrayVec.{array_vec_len};
 ghost use Rattle.cs_check.specs.Checked.{plan_in};
 ghost use Rattle.cs_civil.specs.Calendar.{last_minute};
 ghost use Rattle.cs_daemon.specs.Causes.{IsBack, IsBeforeFirst};
+ghost use Rattle.cs_daemon.specs.Rest.{IsLeftIn};
 ghost use Rattle.cs_daemon.specs.Stamps.{AreKept, AreRead, IsOnlyRead};
 ghost use Rattle.cs_daemon.specs.declared.end.Cause.TheVariants.{Stopped, LastMinute, ClockBack, ClockFailed, HistoryFull};
 ghost use Rattle.cs_device.specs.declared.clock.Tick.TheVariants.{At, Stop};
@@ -21,10 +22,11 @@ use crate::shared::Shared;
 use crate::stamps::Stored;
 use crate::threads::run_threads;
 use cs_check::Checked;
-use cs_civil::Minute;
+use cs_civil::{Minute, Sequence};
 use cs_device::{Clock, Gate, Runner, StampStore, Tick};
 use cs_history::Start;
 use cs_keep::{Keep, Seat};
+use cs_owner::Owner;
 use cs_plan::Plan;
 use std::alloc::Global;
 use std::io;
@@ -116,6 +118,7 @@ fn run_on<
     blank: Blank,
     time: Blank,
     checked: Checked,
+    owners: Sequence<Owner>,
     clock: &mut C,
     runners: Vec<W>,
     gate: &G,
@@ -138,6 +141,7 @@ fn run_on<
     ensures checked { IfSome result.keep (λ kept. checked_in kept ≡ checked) }
     ensures kept { IfSome result.keep (λ kept. IsKept (keeping_in kept)) }
     ensures total { IfSome result.keep (λ kept. (keeping_in kept).total ≡ result.total) }
+    ensures owners { result.owners ≡ owners }
     ensures stopped { result.cause ≡ Stopped → C.last clock.new ≡ Some Stop }
     ensures back { result.cause ≡ ClockBack → IsBack (C.top clock.new) (C.last clock.new) }
     ensures end { result.cause ≡ LastMinute → C.last clock.new ≡ Some (At last_minute) }
@@ -151,19 +155,26 @@ fn run_on<
         (λ kept. AreKept S.reads S.writes (plan_in checked)
         (keeping_in kept).core.state.stamps store.old store.new) }
     ensures faults { result.stamp_faults + S.failures store.old ≤ S.failures store.new }
+    ensures rest { IfSome result.rest
+        (λ m. IfSome result.keep (λ kept. IsLeftIn (keeping_in kept) m)) }
 {
     let workers = runners.len();
     let plan = checked.plan();
     let mut log = Log::new(alloc, plan, out);
     let (stored, opened) = open::<J, S, O>(alloc, blank, plan, &checked, store, &mut log, first);
     let Some((keep, seat)) = opened else {
-        return no_keep(Cause::NoMemory, workers, stored.faults, log.faults());
+        let lost = log.faults();
+        drop(log);
+        drop(checked);
+        drop(runners);
+        return no_keep(Cause::NoMemory, owners, workers, stored.faults, lost);
     };
     let (book, hand) = opened_at::<T>(time, first);
     let shared = Shared {
         rt,
         alloc,
         plan,
+        owners,
         gate,
         dispatch: Mutex::new(Dispatch::new(keep, book)),
         bell: Condvar::new(),
@@ -174,7 +185,8 @@ fn run_on<
 }
 
 /// Runs a checked plan until the clock stops or the daemon can't go on. Each runner has its own
-/// thread, and there are as many as the plan's capacity. What happens is logged.
+/// thread, and there are as many as the plan's capacity. The commands of the crontab have these
+/// owners, in order, or none. What happens is logged.
 ///
 /// The keep opens in the clock's first minute, down, with the stamps of the store; each later
 /// answer of the clock is one tick. In the end the keep goes down, the workers end, and unwritten
@@ -190,6 +202,7 @@ pub fn run_daemon<
     rt: &R,
     alloc: Global,
     checked: Checked,
+    owners: Sequence<Owner>,
     clock: &mut C,
     runners: Vec<W>,
     gate: &G,
@@ -205,6 +218,7 @@ pub fn run_daemon<
     ensures checked { IfSome result.keep (λ kept. checked_in kept ≡ checked) }
     ensures kept { IfSome result.keep (λ kept. IsKept (keeping_in kept)) }
     ensures total { IfSome result.keep (λ kept. (keeping_in kept).total ≡ result.total) }
+    ensures owners { result.owners ≡ owners }
     ensures stopped { result.cause ≡ Stopped → C.last clock.new ≡ Some Stop }
     // The clock's last answer was a minute before an earlier one, or before 1970-01-04 00:00.
     ensures back { result.cause ≡ ClockBack → IsBack (C.top clock.new) (C.last clock.new) }
@@ -220,11 +234,18 @@ pub fn run_daemon<
         (λ kept. AreKept S.reads S.writes (plan_in checked)
         (keeping_in kept).core.state.stamps store.old store.new) }
     ensures faults { result.stamp_faults + S.failures store.old ≤ S.failures store.new }
+    ensures rest { IfSome result.rest
+        (λ m. IfSome result.keep (λ kept. IsLeftIn (keeping_in kept) m)) }
 {
     let parts = u64::from(checked.plan().capacity()) + 1;
     let first = match first_minute(clock) {
         Ok(minute) => minute,
-        Err(cause) => return no_keep(cause, runners.len(), 0, 0),
+        Err(cause) => {
+            let workers = runners.len();
+            drop(checked);
+            drop(runners);
+            return no_keep(cause, owners, workers, 0, 0);
+        }
     };
     run_on::<Brand, Brand, R, C, W, G, S, O>(
         rt,
@@ -232,6 +253,7 @@ pub fn run_daemon<
         Blank::new(parts),
         Blank::new(1),
         checked,
+        owners,
         clock,
         runners,
         gate,

@@ -1,19 +1,25 @@
 //! What the lock guards: the keep, and the starts in its journal that workers take.
-ghost use Rattle.std.specs.Prelude.{◌≡◌, ◌⊎◌, ◌+◌, ◌<◌, ◌≤◌, ◌^◌, ◌∷◌, [], IfErr, IfNone, IfSome, OnOk, drop, length};
+ghost use Rattle.std.proofs.Props.{props};
+ghost use Rattle.std.specs.Prelude.{◌≡◌, ◌⊎◌, ◌+◌, ◌<◌, ◌≤◌, ◌^◌, ◌∷◌, [], IfErr, IfNone, IfSome, OnOk, drop, length, option_map};
+ghost use Rattle.cs_daemon.specs.Late.{late_lines};
+ghost use Rattle.cs_daemon.specs.Rest.{IsAtRest, IsLeftIn};
 ghost use Rattle.cs_daemon.specs.Stamps.{AreLeft};
-ghost use Rattle.cs_daemon.specs.Starts.{IsCut, IsRound, IsTaken, desk, starts_in, with_end};
+ghost use Rattle.cs_daemon.specs.Starts.{IsCut, IsRound, IsTaken, desk, since_in, starts_in, with_end};
 ghost use Rattle.cs_history.specs.declared.event.Event.TheVariants.{Down as GoesDown};
-ghost use Rattle.cs_keep.specs.Keeping.{cut_here, with_event};
+ghost use Rattle.cs_keep.specs.Keeping.{IsKept, cut_here, with_event};
 ghost use Rattle.cs_keep.specs.Tick.{Ticks};
 ghost use Rattle.cs_keep.specs.declared.tick.TickFault.TheVariants.{ClockBack};
+ghost use Rattle.cs_plan.specs.Plan.{as_plan};
 
 use crate::commands::Returned;
+use crate::late::note_overruns;
 use crate::notices::Notices;
 use crate::plan_ledger::PlanLedger;
+use crate::rest::is_at_rest;
 use crate::stamps::{CoreStamps, stamps_of};
 use cs_civil::Minute;
 use cs_core::Core;
-use cs_history::{Event, Reply, Run};
+use cs_history::{Event, Going, Reply, Run};
 use cs_jobs::LogLine;
 use cs_keep::{Entry, Keep, Seat, TickFault};
 use std::alloc::Global;
@@ -23,35 +29,36 @@ use std::sync::ledger::{Book, Ledger, Share};
 /// A start that was taken from the journal, to be run. Only [`Dispatch::take`] makes one, and it
 /// can be neither copied nor dropped.
 pub(crate) struct Taken {
-    run: Run,
+    going: Going,
 }
 
 impl Model for Taken {
-    ghost use Rattle.cs_history.specs.declared.run.Run.{Run};
+    ghost use Rattle.cs_history.specs.declared.run.Going.{Going};
 
-    ghost Value = { Run };
+    ghost Value = { Going };
 
-    ghost view = { λ a. a.run };
+    ghost view = { λ a. a.going };
 }
 
 impl Taken {
     pub(crate) fn run(&self) -> Run
-        ensures { result ≡ self.now }
+        ensures { result ≡ self.now.run }
     {
-        self.run
+        self.going.run
     }
 
-    pub(crate) fn into_run(self) -> Run
+    pub(crate) fn into_going(self) -> Going
         ensures { result ≡ self }
     {
-        let Taken { run } = self;
-        run
+        let Taken { going } = self;
+        going
     }
 }
 
 /// The keep, the index in its journal from which starts aren't taken yet, how many runs were found
-/// late, and whether no more starts will come. The book holds the present minute in proofs: only
-/// the clock's thread, which has its share, can go on to another.
+/// late, whether no more starts will come, and the minute in which it went down at rest. The book
+/// holds the present minute in proofs: only the clock's thread, which has its share, can go on to
+/// another.
 #[derive(Drop)]
 pub(crate) struct Dispatch<J: PlanLedger, T: Ledger> {
     keep: Keep<J>,
@@ -59,9 +66,11 @@ pub(crate) struct Dispatch<J: PlanLedger, T: Ledger> {
     next: usize,
     overruns: u64,
     over: bool,
+    rest: Option<Minute>,
     ghost plan: { keep.core.plan ≡ J.plan },
     ghost place: { next ≤ length keep.journal },
     ghost present: { time.total ≡ keep.core.state.now },
+    ghost left: { IfSome rest (IsLeftIn keep) } by { Prim.hlevel props },
 }
 
 /// What is left to do outside the lock after a tick.
@@ -86,7 +95,32 @@ impl<J: PlanLedger, T: Ledger> Dispatch<J, T> {
             next: 0,
             overruns: 0,
             over: false,
+            rest: None,
         }
+    }
+
+    pub(crate) fn now(&self) -> Minute {
+        self.keep.core().now()
+    }
+
+    pub(crate) fn is_at_rest(&self) -> bool {
+        is_at_rest(self.keep.core())
+    }
+
+    pub(crate) fn has_ended(&self) -> bool {
+        self.keep.core().running().is_empty()
+    }
+
+    pub(crate) fn late(&mut self, alloc: Global, last: Minute, minute: Minute) -> Notices
+        ensures keep { self.new.keep ≡ self.old.keep }
+        ensures next { self.new.next ≡ self.old.next }
+        ensures lines { result.lost ≡ 0 → result.lines.items ≡ late_lines
+            (as_plan self.old.keep.core.plan) last minute self.old.keep.core.state.running }
+    {
+        let mut notices = Notices::none(alloc);
+        let late = note_overruns(self.keep.core(), &mut notices, last, minute);
+        self.overruns = self.overruns.saturating_add(late);
+        notices
     }
 
     pub(crate) fn is_waiting(&self) -> bool {
@@ -96,14 +130,19 @@ impl<J: PlanLedger, T: Ledger> Dispatch<J, T> {
     pub(crate) fn take(&mut self) -> Option<Taken>
         ensures taken { IsTaken
             (desk self.old.keep self.old.next)
-            result
+            (option_map (λ taken. taken.run) result)
             (desk self.new.keep self.new.next) }
+        ensures since { IfSome result (λ taken. taken.since
+            ≡ since_in self.old.keep.core.state.running taken.run) }
         ensures keep { self.new.keep ≡ self.old.keep }
     {
         match next_start(self.keep.journal(), self.next) {
             Some((place, run)) => {
                 self.next = place + 1;
-                Some(Taken { run })
+                let since = since_of(self.keep.core(), run);
+                Some(Taken {
+                    going: Going { run, since },
+                })
             }
             None => {
                 self.next = self.keep.journal().len();
@@ -134,9 +173,24 @@ impl<J: PlanLedger, T: Ledger> Dispatch<J, T> {
         ensures parts { seat.new.parts ≡ seat.old.parts }
         ensures fits { seat.new.share < 2 ^ 64 }
     {
+        let rest = self.minute_of_rest();
         let _ = self.keep.step(seat, Event::Down);
+        self.rest = rest;
         self.over = true;
         self.keep.audit(seat);
+    }
+
+    fn minute_of_rest(&self) -> Option<Minute>
+        ensures kept { IsKept self.now.keep }
+        ensures rest { IfSome result (λ m. IsAtRest self.now.keep.core.state
+            × (self.now.keep.core.state.now ≡ m)) }
+    {
+        let core = self.keep.core();
+        if is_at_rest(core) {
+            Some(core.now())
+        } else {
+            None
+        }
     }
 
     /// Goes on to the minute, notes what to log, and cuts the journal if that may be.
@@ -198,6 +252,7 @@ impl<J: PlanLedger, T: Ledger> Dispatch<J, T> {
         ensures grows { seat.old.share ≤ seat.new.share }
         ensures parts { seat.new.parts ≡ seat.old.parts }
     {
+        self.rest = None;
         self.time.audit(time);
         let ticked = self.keep.tick(seat, last, minute);
         self.time.sub(time, last.number());
@@ -216,6 +271,7 @@ impl<J: PlanLedger, T: Ledger> Dispatch<J, T> {
         if next_start(self.keep.journal(), self.next).is_some() {
             return;
         }
+        self.rest = None;
         if self.keep.cut() {
             self.next = 0;
         }
@@ -229,8 +285,9 @@ impl<J: PlanLedger, T: Ledger> Dispatch<J, T> {
         self.keep.audit(seat)
     }
 
-    pub(crate) fn into_parts(self) -> (Keep<J>, u64)
-        ensures { result.0.core.plan ≡ J.plan }
+    pub(crate) fn into_parts(self) -> (Keep<J>, u64, Option<Minute>)
+        ensures plan { result.0.core.plan ≡ J.plan }
+        ensures left { IfSome result.2 (IsLeftIn result.0) }
     {
         let Dispatch {
             keep,
@@ -238,8 +295,18 @@ impl<J: PlanLedger, T: Ledger> Dispatch<J, T> {
             next: _,
             overruns,
             over: _,
+            rest,
         } = self;
-        (keep, overruns)
+        (keep, overruns, rest)
+    }
+}
+
+fn since_of(core: &Core, run: Run) -> u64
+    ensures { result ≡ since_in core.now.state.running run }
+{
+    match core.running().since(run) {
+        Some(since) => since,
+        None => run.at,
     }
 }
 
@@ -279,26 +346,5 @@ fn note_reply(notices: &mut Notices, reply: Reply, run: Run) {
         Reply::Waiting => notices.add(LogLine::Waiting(run)),
         Reply::Skipped => notices.add(LogLine::Skipped(run)),
         _ => {}
-    }
-}
-
-/// Notes which running runs have become late since the last minute, and returns how many.
-fn note_overruns(core: &Core, notices: &mut Notices, last: Minute, minute: Minute) -> u64 {
-    let mut late: u64 = 0;
-    for going in core.running().iter() {
-        let deadline = deadline(core, going.run.job, going.since);
-        if last.number() < deadline && deadline <= minute.number() {
-            notices.add(LogLine::Overrun(going.run));
-            late = late.saturating_add(1);
-        }
-    }
-    late
-}
-
-/// The first minute in which a run of this job is late.
-fn deadline(core: &Core, job: u16, since: u64) -> u64 {
-    match core.plan().jobs().get(usize::from(job)) {
-        Some(job) => since.saturating_add(u64::from(job.max())),
-        None => u64::MAX,
     }
 }

@@ -1,7 +1,9 @@
 //! How a daemon ends, and what it leaves.
 
 use arrayvec::ArrayVec;
+use cs_civil::{Minute, Sequence};
 use cs_keep::Kept;
+use cs_owner::Owner;
 
 /// Why a daemon ended.
 #[derive(Clone, Copy, PartialEq, Eq)]
@@ -31,6 +33,8 @@ pub struct DaemonEnd {
     pub shares: ArrayVec<u64, 65>,
     /// The keep after its last event; `None` if the daemon ended before it opened one.
     pub keep: Option<Kept>,
+    /// The owners of the crontab's commands, in order, or none.
+    pub owners: Sequence<Owner>,
     /// Runs that couldn't be started.
     pub not_started: u64,
     /// Runs that were found past their declared time.
@@ -39,4 +43,6 @@ pub struct DaemonEnd {
     pub stamp_faults: u64,
     /// Log lines that were lost.
     pub log_faults: u64,
+    /// The minute in which it went down, if nothing was pending, waited or ran then.
+    pub rest: Option<Minute>,
 }

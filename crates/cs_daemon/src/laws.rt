@@ -1,18 +1,21 @@
-//! Laws of ticks and rounds, of the starts that workers take, and of stamps.
-ghost use Rattle.std.specs.Prelude.{◌≡◌, ◌<◌, ℕ, [], Err, List, Ok, OnOk, Option, Result, Some, false};
+//! Laws of ticks and rounds, of the starts that workers take, of late runs, and of stamps.
+ghost use Rattle.std.specs.Prelude.{◌≡◌, ◌↔◌, ◌<◌, ℕ, [], Err, List, Ok, OnOk, Option, Result, Some, false};
 ghost use Rattle.cs_anacrontab.specs.Anacrontab.{JobLine};
 ghost use Rattle.cs_daemon.specs.Deeds.{AreHandedOut};
+ghost use Rattle.cs_daemon.specs.Late.{is_late};
+ghost use Rattle.cs_daemon.specs.Rest.{IsLeftIn};
 ghost use Rattle.cs_daemon.specs.Shelf.{HaveNames, Holds, Reads, Shelf, Writes};
 ghost use Rattle.cs_daemon.specs.Stamps.{AreKept, IsOnlyRead};
 ghost use Rattle.cs_daemon.specs.Starts.{IsRound, Rounds, desk, starts_in};
 ghost use Rattle.cs_daemon.specs.Ticked.{IsFull, Wrote};
 ghost use Rattle.cs_plan.specs.Plan.{Declared};
-ghost use Rattle.cs_history.specs.History.{Start, same_run};
+ghost use Rattle.cs_history.specs.History.{IsWithin, Start, same_run};
 ghost use Rattle.cs_history.specs.Journal.{IsJournal};
 ghost use Rattle.cs_history.specs.Lists.{EachPair};
 ghost use Rattle.cs_history.specs.Plan.{Plan};
 ghost use Rattle.cs_history.specs.Step.{State};
 ghost use Rattle.cs_history.specs.declared.event.Event.{Event};
+ghost use Rattle.cs_history.specs.declared.run.Going.{Going};
 ghost use Rattle.cs_history.specs.declared.reply.Reply.{Reply};
 ghost use Rattle.cs_keep.specs.Keeping.{Keeping, plan_of};
 ghost use Rattle.cs_keep.specs.Seat.{Place};
@@ -63,6 +66,17 @@ pub fn what_a_round_says()
     ensures now { (old new : Keeping × Place) (from last m to : ℕ)
         (r : Result (Unit {0}) TickFault) → IsRound old from last m r new to
         → OnOk r (new.0.core.state.now ≡ m) }
+{}
+
+/// Lemma. A run is late just when it isn't within its declared time.
+pub fn what_late_means()
+    ensures { (p : Plan) (t : ℕ) (r : Going) → (is_late p t r ≡ false) ↔ IsWithin p t r }
+{}
+
+/// Lemma. A keep that was left in a minute shows that minute, and nothing runs.
+pub fn what_is_left()
+    ensures runs { (k : Keeping) (m : ℕ) → IsLeftIn k m → k.core.state.running ≡ [] }
+    ensures now { (k : Keeping) (m : ℕ) → IsLeftIn k m → k.core.state.now ≡ m }
 {}
 
 /// Lemma. A store that does what it is asked ends with each stamp of the keep under its job's

@@ -7,10 +7,13 @@ mod commands;
 mod daemon;
 mod dispatch;
 mod end;
+mod late;
 mod laws;
 mod log;
 mod notices;
 mod plan_ledger;
+mod rest;
+mod seeing_off;
 mod shared;
 mod stamps;
 mod threads;
@@ -20,4 +23,5 @@ pub use daemon::run_daemon;
 pub use end::{Cause, DaemonEnd};
 pub use laws::{
     starts_are_handed_out, starts_differ, what_a_round_says, what_a_store_holds, what_a_tick_says,
+    what_is_left, what_late_means,
 };

@@ -1,4 +1,5 @@
 //! What a tick logs besides the runs that it started.
+ghost use Rattle.std.specs.Prelude.{◌≡◌, ◌⊎◌, ◌<◌, [], ◌∷◌, ◌++◌};
 
 use cs_jobs::LogLine;
 use std::alloc::Global;
@@ -11,14 +12,19 @@ pub(crate) struct Notices {
 }
 
 impl Notices {
-    pub(crate) fn none(alloc: Global) -> Notices {
+    pub(crate) fn none(alloc: Global) -> Notices
+        ensures { (result.lines.items ≡ []) × (result.lost ≡ 0) }
+    {
         Notices {
             lines: Vec::new(alloc),
             lost: 0,
         }
     }
 
-    pub(crate) fn add(&mut self, line: LogLine) {
+    pub(crate) fn add(&mut self, line: LogLine)
+        ensures { ((self.new.lines.items ≡ self.old.lines.items ++ line ∷ [])
+            × (self.new.lost ≡ self.old.lost)) ⊎ (0 < self.new.lost) }
+    {
         if self.lines.push(line).is_err() {
             self.lost = self.lost.saturating_add(1);
         }

@@ -4,7 +4,9 @@ ghost use Rattle.std.specs.Prelude.{◌≡◌, ◌<◌, ◌≤◌, ◌^◌};
 use crate::dispatch::{Dispatch, Taken};
 use crate::log::Log;
 use crate::plan_ledger::PlanLedger;
+use cs_civil::Sequence;
 use cs_keep::Seat;
+use cs_owner::Owner;
 use cs_plan::Plan;
 use std::alloc::Global;
 use std::io;
@@ -17,6 +19,7 @@ pub(crate) struct Shared<'w, J: PlanLedger, T: Ledger, R, G, O> {
     pub(crate) rt: &'w R,
     pub(crate) alloc: Global,
     pub(crate) plan: &'w Plan,
+    pub(crate) owners: Sequence<Owner>,
     pub(crate) gate: &'w G,
     pub(crate) dispatch: Mutex<Dispatch<J, T>>,
     pub(crate) bell: Condvar,

@@ -2,7 +2,7 @@
 ghost use Rattle.std.specs.Prelude.{◌≡◌, ◌+◌, ◌<◌, ◌≤◌, ◌^◌, List, length};
 ghost use Rattle.cs_daemon.specs.Carried.{CarriesOut, CarriesOutAll};
 ghost use Rattle.cs_device.specs.declared.runner.Outcome as outcome;
-ghost use Rattle.cs_history.specs.declared.run.Run as run;
+ghost use Rattle.cs_history.specs.declared.run.Going as going;
 
 use crate::commands::carry_out;
 use crate::dispatch::Taken;
@@ -28,8 +28,8 @@ impl<'w, J: PlanLedger, T: Ledger, R: Wait, G: Gate, O: io::Write> Shared<'w, J,
     /// returned.
     pub(crate) fn work<W: Runner>(&self, runner: &mut W, seat: Seat<J>) -> WorkerEnd<J>
         requires { seat.parts ≡ 1 }
-        ensures { (runs : List (run.Run × outcome.Outcome))
-            × CarriesOutAll W.runs self.now.plan.now runs runner.old runner.new
+        ensures { (runs : List (going.Going × outcome.Outcome))
+            × CarriesOutAll W.runs self.now.plan.now self.now.owners runs runner.old runner.new
             × (result.seat.share ≤ seat.share + length runs) }
     {
         let mut seat = seat;
@@ -48,14 +48,21 @@ impl<'w, J: PlanLedger, T: Ledger, R: Wait, G: Gate, O: io::Write> Shared<'w, J,
 
     /// Runs the job between the gate's two points, outside the locks, and then makes its end.
     fn run_job<W: Runner>(&self, runner: &mut W, seat: &mut Seat<J>, taken: Taken) -> Outcome
-        ensures runs { CarriesOut W.runs self.now.plan.now taken runner.old result runner.new }
+        ensures runs { CarriesOut W.runs self.now.plan.now self.now.owners taken runner.old
+            result runner.new }
         ensures one { seat.new.share ≤ seat.old.share + 1 }
         ensures parts { seat.new.parts ≡ seat.old.parts }
     {
         let run = taken.run();
         self.log.lock(self.rt).write(LogLine::Started(run));
         self.gate.pass(run, Point::Before);
-        let (returned, outcome) = carry_out(self.alloc, self.plan, runner, taken);
+        let (returned, outcome) = carry_out(
+            self.alloc,
+            self.plan,
+            self.owners.as_slice(),
+            runner,
+            taken,
+        );
         self.gate.pass(run, Point::After);
         self.dispatch.lock(self.rt).end(seat, returned);
         self.log.lock(self.rt).write(LogLine::Ended(run, outcome));

@@ -1,4 +1,4 @@
-ghost use Rattle.std.specs.Prelude.{◌≡◌, ℕ, ◌+◌, ◌<◌, ◌≤◌, Option, Some};
+ghost use Rattle.std.specs.Prelude.{◌≡◌, ℕ, ◌+◌, ◌<◌, ◌≤◌, Option, Some, false, true};
 
 use cs_civil::Minute;
 
@@ -16,7 +16,7 @@ pub enum Tick {
 /// A clock in whole minutes; contracts see its answers so far.
 pub trait Clock {
     ghost use Rattle.cs_device.specs.declared.clock.Tick.{Tick};
-    ghost use Rattle.cs_device.specs.declared.clock.Tick.TheVariants.{Failed};
+    ghost use Rattle.cs_device.specs.declared.clock.Tick.TheVariants.{Failed, Stop};
     ghost use Rattle.cs_device.specs.Rise.{risen_by, top_by};
 
     /// The last answer, if there is one.
@@ -39,4 +39,20 @@ pub trait Clock {
         ensures failed { result ≡ Failed → failures self.old < failures self.new }
         ensures top { top self.new ≡ top_by (top self.old) result }
         ensures risen { risen self.new ≡ risen self.old + risen_by (top self.old) result };
+
+    /// Whether a daemon in which nothing is pending, waits or runs is to end.
+    fn stops_at_rest(&mut self) -> bool
+        ensures stopped { result ≡ true → last self.new ≡ Some Stop }
+        ensures same { result ≡ false → last self.new ≡ last self.old }
+        ensures failures { failures self.new ≡ failures self.old }
+        ensures top { top self.new ≡ top self.old }
+        ensures risen { risen self.new ≡ risen self.old };
+
+    /// Waits as a later [`tick`](Clock::tick) does, and returns the minute then, if the clock can
+    /// be read. That is no answer.
+    fn look_on(&mut self) -> Option<Minute>
+        ensures last { last self.new ≡ last self.old }
+        ensures failures { failures self.new ≡ failures self.old }
+        ensures top { top self.new ≡ top self.old }
+        ensures risen { risen self.new ≡ risen self.old };
 }

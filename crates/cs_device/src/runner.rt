@@ -2,7 +2,7 @@
 ghost use Rattle.std.specs.Prelude.{◌≡◌, ℕ, ◌<◌, ◌≤◌};
 ghost use Rattle.cs_device.specs.Asked.{asked};
 
-use cs_civil::Bytes;
+use cs_civil::{Bytes, Minute};
 
 /// How a run ended.
 #[derive(Clone, Copy, PartialEq, Eq)]
@@ -30,17 +30,20 @@ pub trait Runner {
     /// How often a command couldn't be started.
     ghost failures: { Self → ℕ };
 
-    /// Runs a command with this standard input, or an empty one, and these names and values in its
-    /// environment. `name` is the run's, as a log has it. Returns when the command has ended.
+    /// Runs a command until it has ended, as this user or the daemon's, with this standard input,
+    /// or an empty one, and these names and values in its environment. `name` is the run's, as a
+    /// log has it, `until` the minute in which it must have ended.
     fn run(
         &mut self,
         name: &[u8],
+        user: Option<&[u8]>,
         command: &[u8],
         input: Option<&[u8]>,
         env: &[(Bytes, Bytes)],
+        until: Option<Minute>,
     ) -> Outcome
-        ensures runs { runs self.old (asked name.now command.now input.entry env.now) result
-            self.new }
+        ensures runs { runs self.old
+            (asked name.now user.entry command.now input.entry env.now until) result self.new }
         ensures failures { failures self.old ≤ failures self.new }
         ensures failed { result ≡ NotStarted → failures self.old < failures self.new };
 }

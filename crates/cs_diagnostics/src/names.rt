@@ -1,5 +1,7 @@
 //! Names in words: how one is shown, and which one may be meant by another.
 use crate::findings::Words;
+use crate::span::Span;
+use cs_place::harmful;
 use std::alloc::{AllocError, Global};
 use strsim::levenshtein;
 
@@ -12,20 +14,31 @@ const MAX_COMPARED: usize = 24;
 /// The most edits between a name and the one that may be meant.
 const MAX_EDITS: usize = 3;
 
-/// Whether a terminal may obey the byte: a control byte other than a tab.
-pub(crate) fn is_control(byte: u8) -> bool {
-    byte < b' ' && byte != b'\t' || byte == 0x7f
+/// Adds bytes with `?` for each control byte, for each character that a terminal may obey, and
+/// `tab` for a tab. The only error is out of memory.
+pub(crate) fn push_clean(text: &mut Vec<u8>, bytes: &[u8], tab: u8) -> Result<(), AllocError> {
+    let mut left = 0;
+    for (index, byte) in bytes.iter().enumerate() {
+        if left == 0 {
+            left = harmful(Span::of(index, 3).bytes(bytes));
+            let clean = match *byte {
+                b'\t' => tab,
+                byte if 0 < left || byte < b' ' || byte == 0x7f => b'?',
+                byte => byte,
+            };
+            text.push(clean)?;
+        }
+        left = left.saturating_sub(1);
+    }
+    Ok(())
 }
 
-/// A name as a terminal may show it: with `?` for each control byte, and `...` after 60 bytes. The
-/// only error is out of memory.
+/// A name as a terminal may show it: with `?` for each control byte and for each character that a
+/// terminal may obey, and `...` after 60 bytes. The only error is out of memory.
 pub fn shown(alloc: Global, name: &[u8]) -> Words {
     let front = &name[..name.len().min(MAX_SHOWN)];
     let mut clean = Vec::new(alloc);
-    for byte in front {
-        let is_plain = !is_control(*byte) && *byte != b'\t';
-        clean.push(if is_plain { *byte } else { b'?' })?;
-    }
+    push_clean(&mut clean, front, b'?')?;
     if front.len() < name.len() {
         clean.extend_from_slice(b"...")?;
     }

@@ -1,7 +1,7 @@
 //! The text of findings: the place and the words, the line, and a mark under the place.
 
 use crate::findings::{Done, Finding, Findings, MAX_TOLD, Note};
-use crate::names::is_control;
+use crate::names::push_clean;
 use crate::span::Span;
 use std::alloc::{AllocError, Global};
 
@@ -58,9 +58,7 @@ fn marked(alloc: Global, bytes: &[u8], finding: &Finding) -> Result<Vec<u8>, All
     let front = Span::between(piece.from, from.min(piece.to));
     let behind = Span::between(from.saturating_add(1), place.to.min(piece.to));
     let mut text = Vec::from_slice(alloc, cut.as_bytes())?;
-    for byte in piece.bytes(bytes) {
-        text.push(if is_control(*byte) { b'?' } else { *byte })?;
-    }
+    push_clean(&mut text, piece.bytes(bytes), b'\t')?;
     text.extend_from_slice(if goes_further { "...\n" } else { "\n" }.as_bytes())?;
     text.extend_from_slice(below_cut.as_bytes())?;
     add_below(&mut text, front.bytes(bytes), b' ')?;

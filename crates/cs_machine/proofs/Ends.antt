@@ -35,7 +35,6 @@ last_word (x ∷ a) (y ∷ b) s t same no_s no_t =
 pub end_cut : (words run what word : List ℕ) → EndsBy words run what word → words ≡ (codes "ended " ++ run ++ what) ++ 32 ∷ word
 end_cut words run what word ends = ends.0 ∙ append_assoc (codes "ended " ++ run ++ what) (codes " ") word
 
--- the end of a run, cut at its last blank
 pub end_parts : (words run what word front back : List ℕ) → EndsBy words run what word → words ≡ front ++ codes " " ++ back → has_blank back ≡ false → (codes "ended " ++ run ++ what ≡ front) × (word ≡ back)
 end_parts words run what word front back ends cut no_back =
     last_word (codes "ended " ++ run ++ what) front word back (sym (end_cut words run what word ends) ∙ cut ∙ append_assoc front (codes " ") back) ends.1 no_back
@@ -49,7 +48,6 @@ no_blank (x ∷ xs) none =
 pub none_behind : (xs : List ℕ) (i : ℕ) → NoneAfter (Passes (is_byte 32) xs) 0 (length xs) i → has_blank (drop (i + 1) xs) ≡ false
 none_behind xs i last = no_blank (drop (i + 1) xs) (λ k low is. last.after (i + 1 + k) (omega arith) (omega (arith, subst (λ n. k < n) (length-drop (i + 1) xs) low)) (sym (ap (λ b. b == 32) (get_or-drop (i + 1) xs k 0)) ∙ is))
 
--- what follows the name of a run that a signal ended
 pub behind_name : (words run number : List ℕ) → EndsBy words run (codes " signal") number → drop (6 + length run + 1) words ≡ codes "signal " ++ number
 behind_name words run number ends =
     let front : List ℕ = codes "ended " ++ run ++ codes " " in
@@ -66,7 +64,6 @@ status_apart run other same =
     let last : 115 ≡ 108 = sym (ap first (reverse-append (codes "ended " ++ run) (codes " status"))) ∙ ap last_byte same ∙ ap first (reverse-append (codes "ended " ++ other) (codes " signal")) in
     absurd (omega (arith, last))
 
--- a line with status 0 has no other status
 other_status : (words run other failed : List ℕ) → EndsBy words run (codes " status") (codes "0") → TellsEnd words other failed → failed ≡ codes "0"
 other_status words run other failed ends (inl by) =
     (end_parts words other (codes " status") failed (codes "ended " ++ run ++ codes " status") (codes "0") by ends.0 ends.1).1

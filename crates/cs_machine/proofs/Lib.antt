@@ -1,5 +1,11 @@
 pub mod Ends
 pub mod Hooks
+pub mod Lasting
+pub mod Limits
 pub mod Names
+pub mod Pushes
 pub mod Shapes
+pub mod StatText
 pub mod Texts
+pub mod Ticks
+pub mod Users

@@ -13,7 +13,6 @@ pub record IsFileName (name : List ℕ) : Type 0 where
   pub no_dots : name ≢ codes ".."
   pub clean : list_any is_kept_out name ≡ false
 
--- the path of a stamp's file
 abbrev pub file_of : List ℕ → List ℕ → List ℕ
 file_of folder identifier = folder ++ codes "/" ++ identifier
 
@@ -24,13 +23,21 @@ new_file_of folder identifier = file_of folder identifier ++ codes " new"
 abbrev pub state_file_of : List ℕ → List ℕ
 state_file_of folder = file_of folder (codes "cronsafe state")
 
+abbrev pub runs_file_of : List ℕ → List ℕ
+runs_file_of folder = file_of folder (codes "cronsafe runs")
+
 abbrev pub answer_file_of : List ℕ → List ℕ
 answer_file_of folder = file_of folder (codes "cronsafe answer")
 
--- the file by which a daemon is asked to end
+abbrev pub lock_file_of : List ℕ → List ℕ
+lock_file_of folder = file_of folder (codes "cronsafe lock")
+
 abbrev pub stop_file_of : List ℕ → List ℕ
 stop_file_of folder = file_of folder (codes "cronsafe stop")
 
--- the file by which a daemon is asked to read its tables again
 abbrev pub reload_file_of : List ℕ → List ℕ
 reload_file_of folder = file_of folder (codes "cronsafe reload")
+
+-- beside the request to reload: nothing more starts before
+abbrev pub drain_file_of : List ℕ → List ℕ
+drain_file_of folder = file_of folder (codes "cronsafe drain")

@@ -20,6 +20,6 @@ readable text = utf8_lossy text
 abbrev pub hook_value_with : List ℕ → Option (List ℕ) → HookVariable → Option (List ℕ)
 hook_value_with name before v = value_with name before (v.0.now, readable v.1.now)
 
--- the value that variables give to a name: the last one
+-- the last one of a name counts
 abbrev pub hook_value : List HookVariable → List ℕ → Option (List ℕ)
 hook_value variables name = fold (hook_value_with name) None variables

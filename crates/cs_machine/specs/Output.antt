@@ -1,4 +1,4 @@
--- The files for the output of runs, and what is written where one can't be opened.
+-- The files for the output of runs.
 use Rattle.std.specs.Prelude.{◌≡◌, ℕ, ◌-◌, ◌&&◌, ◌==◌, if◌then◌else◌, Bool, true, not, List, ◌++◌, length, map, take, drop, bytes_eq, slice_get, string_bytes, codes, Option, Some, None, String}
 use Rattle.std.specs.Char.{is_ascii_digit}
 use Rattle.std.specs.List.{list_all, slice_split}
@@ -6,7 +6,7 @@ use Rattle.std.specs.List.Sorted.{IsPermutation, IsSorted}
 use Rattle.std.specs.String.{string_cmp}
 use Rattle.cs_machine.specs.StartText.{place_text}
 
--- a word of a run's name, by its number from 0
+-- by its number from 0
 abbrev pub word : List ℕ → ℕ → Option (List ℕ)
 word run n = slice_get (slice_split (λ b. b == 32) run) n
 
@@ -47,12 +47,11 @@ AreFirst {Z} left names first =
     (sorted : List (String Z)) × IsPermutation names sorted × IsSorted string_cmp sorted
     × (first ≡ take (length sorted - left) sorted)
 
--- the files that are removed before this one is opened, so that at most so many of its job are kept
+-- what is removed before this file is opened, so that at most so many of its job are kept
 abbrev pub AreOld : {Z : Type 0} → List ℕ → ℕ → List (String Z) → Type 0
 AreOld {Z} file keep old =
     (others : List (String Z)) × AreOthers file others × AreFirst (keep - 1) others old
 
--- a run's file can't be opened: the run, the folder and the machine's error
 abbrev pub output_text : List ℕ → List ℕ → List ℕ → List ℕ
 output_text run folder why =
     codes "can't keep the output of " ++ run ++ place_text (Some folder) ++ codes ": " ++ why

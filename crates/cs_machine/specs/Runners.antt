@@ -4,7 +4,6 @@ use Rattle.cs_machine.specs.declared.output.OutputFolder.{OutputFolder}
 use Rattle.cs_machine.specs.declared.runners.RunnerSetup.{RunnerSetup}
 use Rattle.cs_machine.specs.declared.runners.RunnerWords.{RunnerWords}
 
--- the folder at the given path, if there is one, and how many files of each job it keeps
 abbrev pub IsOutputOf : RunnerWords → Option OutputFolder → Type 0
 IsOutputOf words output =
     (option_map (λ folder. string_bytes folder.path) output
@@ -14,9 +13,9 @@ IsOutputOf words output =
 abbrev pub IsMadeWith : RunnerWords → RunnerSetup → Type 0
 IsMadeWith words setup =
     (setup.has_home ≡ words.has_home) × (setup.tells_signals ≡ words.tells_signals)
-    × IsOutputOf words setup.output
+    × IsOutputOf words setup.output × (setup.offset ≡ words.offset)
 
--- a runner made by a call with such a setup, where `returns` is what a call may return
+-- `returns` is what a call may return
 abbrev pub IsMadeBy : {W : Type 0} → (RunnerSetup → W → Type 0) → RunnerWords → W → Type 0
 IsMadeBy {W} returns words runner =
     (setup : RunnerSetup) × IsMadeWith words setup × returns setup runner

@@ -1,14 +1,13 @@
 /// How many lines of a log report each of these, at most 2^64 - 1.
 #[derive(Clone, Copy)]
 pub(crate) struct Counts {
-    /// Runs that were skipped, since their group's lock was held.
     pub(crate) skipped: u64,
-    /// Runs that have passed their declared time.
     pub(crate) overruns: u64,
     pub(crate) not_started: u64,
     /// Gaps in the clock's minutes.
     pub(crate) outages: u64,
     pub(crate) stamps_not_written: u64,
+    pub(crate) limits: u64,
 }
 
 fn counted(count: u64, words: &[u8], front: &[u8]) -> u64 {
@@ -26,8 +25,10 @@ impl Counts {
         not_started: 0,
         outages: 0,
         stamps_not_written: 0,
+        limits: 0,
     };
 
+    /// Counts a line, of the daemon or left by a runner.
     pub(crate) fn with(self, words: &[u8]) -> Counts {
         Counts {
             skipped: counted(self.skipped, words, b"skipped "),
@@ -35,6 +36,11 @@ impl Counts {
             not_started: counted(self.not_started, words, b"not started "),
             outages: counted(self.outages, words, b"outage "),
             stamps_not_written: counted(self.stamps_not_written, words, b"stamp not written "),
+            limits: if words.ends_with(b" was ended at its limit") {
+                self.limits.saturating_add(1)
+            } else {
+                self.limits
+            },
         }
     }
 }

@@ -10,14 +10,11 @@ use std::io;
 use std::io::{Stderr, Stdout};
 use std::process::{Command, Processes, Stdio};
 
-/// The shell's own command: it starts its first parameter in the background, without input.
 const CALL: &str = "(eval \"$1\") </dev/null &";
 
-/// Starts a command with `/bin/sh` in the background, with these variables and streams. It doesn't
-/// wait for the command, nor report how it ends.
-///
-/// In a value, bytes that aren't UTF-8 become U+FFFD. An error if the shell can't be started, as
-/// where the command or a value has a byte 0, or if memory runs out.
+/// Starts a command with `/bin/sh` in the background, with these variables and streams, and doesn't
+/// wait for it. In a value, bytes that aren't UTF-8 become U+FFFD. An error if the shell can't be
+/// started, as where the command or a value has a byte 0, or if memory runs out.
 pub fn call_hook<P: Processes>(
     processes: &P,
     alloc: Global,

@@ -29,9 +29,15 @@ pub enum HookCall {
         /// `not started`.
         status: Bytes,
     },
+    /// It was ended at its limit.
+    Limit {
+        /// Its name.
+        run: Bytes,
+        /// As for an overrun, since some of it may go on.
+        peers: Bytes,
+    },
 }
 
-/// The most calls that are kept until they are taken.
 const MOST: usize = 256;
 
 fn around_last_blank(text: &[u8]) -> Option<(&[u8], &[u8])>
@@ -43,7 +49,6 @@ fn around_last_blank(text: &[u8]) -> Option<(&[u8], &[u8])>
     Some((&text[..at], &text[at + 1..]))
 }
 
-/// The run in `ended RUN WHAT WORD`, and the word.
 fn ended_by<'w>(words: &'w [u8], what: &[u8]) -> Option<(&'w [u8], &'w [u8])>
     ensures some { IfSome result (λ p. EndsBy words.now p.0.now what.now p.1.now) }
     ensures none { IsNone result → (run word : List ℕ) → ¬ (EndsBy words.now run what.now word) }
@@ -53,7 +58,6 @@ fn ended_by<'w>(words: &'w [u8], what: &[u8]) -> Option<(&'w [u8], &'w [u8])>
     Some((run, word))
 }
 
-/// The run in `ended RUN signal NUMBER`, and `signal NUMBER`.
 fn signalled_run(words: &[u8]) -> Option<(&[u8], &[u8])>
     ensures some { IfSome result (λ p. TellsSignal words.now p.0.now p.1.now) }
     ensures none { IsNone result → (run status : List ℕ) → ¬ (TellsSignal words.now run status) }
@@ -103,15 +107,18 @@ fn call_of(alloc: Global, words: &[u8], jobs: &[JobNote]) -> Result<Option<HookC
         let (run, peers) = copied(alloc, run, peers_of(jobs, run))?;
         return Ok(Some(HookCall::Overrun { run, peers }));
     }
-    let Some((run, status)) = failed_run(words) else {
+    if let Some((run, status)) = failed_run(words) {
+        let (run, status) = copied(alloc, run, status)?;
+        return Ok(Some(HookCall::Failure { run, status }));
+    }
+    let Some(run) = words.strip_suffix(b" was ended at its limit") else {
         return Ok(None);
     };
-    let (run, status) = copied(alloc, run, status)?;
-    Ok(Some(HookCall::Failure { run, status }))
+    let (run, peers) = copied(alloc, run, peers_of(jobs, run))?;
+    Ok(Some(HookCall::Limit { run, peers }))
 }
 
-/// Keeps the call for a line, if there are hooks and fewer than 256 calls. If memory runs out, it
-/// isn't kept.
+/// Keeps the call for a line, if there are hooks and fewer than 256 calls.
 pub(crate) fn note_call(
     alloc: Global,
     calls: &mut Vec<HookCall>,

@@ -1,4 +1,3 @@
-//! The texts of a log's lines, with their times.
 ghost use Rattle.std.specs.Prelude.{◌≡◌, ◌++◌, ◌<◌, ◌≤◌, ◌/◌, ◌↔◌, OnOk, IfSome, IsSome};
 ghost use Rattle.cs_civil.specs.Calendar.{last_day};
 ghost use Rattle.cs_civil.specs.Text.{two_digits};
@@ -18,7 +17,7 @@ fn two_digits(number: u64) -> [u8; 2]
     [b'0' + (number / 10) as u8, b'0' + (number % 10) as u8]
 }
 
-/// A moment in seconds since 1970-01-01 00:00 UTC, as text; none after the year 9999.
+/// Of seconds since 1970-01-01 00:00 UTC; none after the year 9999.
 pub(crate) fn moment_text(seconds: u64) -> Option<[u8; 20]>
     ensures dated { IsSome result ↔ (seconds / 86_400 ≤ last_day) }
     ensures text { IfSome result (λ text. text ≡ moment_text seconds) }
@@ -90,7 +89,7 @@ fn push_peers(
     push_line(alloc, text, at, words.as_slice(), None)
 }
 
-/// Adds the line that follows that of a late run, if there is one.
+/// For a late run only.
 pub(crate) fn push_meeting(
     alloc: Global,
     text: &mut Vec<u8>,

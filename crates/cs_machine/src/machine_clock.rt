@@ -4,9 +4,9 @@ ghost use Rattle.std.specs.Prelude.{◌+ℤ◌, unwrap_or, is_some, true, false}
 ghost use Rattle.cs_civil.specs.Calendar.{first_minute, last_minute};
 ghost use Rattle.cs_device.specs.Rise.{risen_by, top_by};
 ghost use Rattle.cs_device.specs.Telling.{nothing_told};
-ghost use Rattle.cs_device.specs.declared.clock.Tick.TheVariants.{Failed};
+ghost use Rattle.cs_device.specs.declared.clock.Tick.TheVariants.{At, Failed};
 ghost use Rattle.cs_machine.specs.declared.attendant.ClockBack.{ClockBack};
-ghost use Rattle.cs_machine.specs.Passing.{clock_minute, held, is_behind, IsBackAt, IsMoved, latest, shown};
+ghost use Rattle.cs_machine.specs.Passing.{clock_minute, held, is_behind, IsBackAt, IsMoved, latest, shown, skips};
 
 use crate::attendant::{Attendant, ClockBack};
 use cs_civil::{Minute, minute_at};
@@ -14,18 +14,18 @@ use cs_device::{Clock, Tick, Told};
 use std::time::{Duration, SystemTime};
 use std::{thread, time};
 
-/// If the machine's clock is put back by at most this many minutes, the daemon's waits for it.
+/// In minutes, for a clock that was put back.
 const LONGEST_WAIT: u64 = 60;
 
 /// The machine's clock at one offset from UTC, which a daemon looks at once a second.
 ///
 /// If the machine's clock is put back by at most an hour, this one stands still until that has
 /// caught up, so that no minute comes twice. If it's put back further, this one goes back too. The
-/// attendant learns of either once, until the machine's clock has caught up.
+/// attendant learns of either once.
 ///
-/// [`Stop`](Tick::Stop) when the attendant says that the daemon is asked to end.
-/// [`Failed`](Tick::Failed) if the machine has no time, or it isn't from 1970-01-02 00:00 to
-/// 9999-12-31 23:59 at the offset. After 2^64 - 1 failures, another is [`Stop`](Tick::Stop).
+/// [`Stop`](Tick::Stop) at the limit, and when the daemon is asked to end. [`Failed`](Tick::Failed)
+/// if the machine has no time, or it isn't from 1970-01-02 00:00 to 9999-12-31 23:59 at the offset.
+/// After 2^64 - 1 failures, another is [`Stop`](Tick::Stop).
 #[derive(Drop)]
 pub struct MachineClock<'r, R, A> {
     rt: &'r R,
@@ -39,9 +39,8 @@ pub struct MachineClock<'r, R, A> {
 }
 
 impl<'r, R: time::Clock, A: Attendant> MachineClock<'r, R, A> {
-    /// Returns a clock without answers yet, at an offset: the minutes by which it is ahead of UTC.
-    ///
-    /// With a limit it stops this many minutes after its first answer, with 0 at its second.
+    /// Returns a clock without answers yet, `offset` minutes ahead of UTC. With a limit it shows
+    /// so many minutes after its first one and then stops; with 0 it stops at its second answer.
     pub fn new(rt: &'r R, offset: i16, limit: Option<u64>, attendant: A) -> MachineClock<'r, R, A>
         ensures told { result.told ≡ nothing_told }
         ensures asked { (result.offset ≡ offset) × (result.limit ≡ limit) × (result.first ≡ None)
@@ -60,11 +59,9 @@ impl<'r, R: time::Clock, A: Attendant> MachineClock<'r, R, A> {
         }
     }
 
-    /// Returns this clock for the next daemon, and the attendant that it had. Its first and latest
-    /// minutes are the same instants, if they are in range at the other offset.
-    ///
-    /// If it has a latest minute, that is its first answer, unless the limit is over: so no minute
-    /// comes twice or gets lost between two daemons.
+    /// Returns this clock for the next daemon, and the attendant that it had. Its minutes are the
+    /// same instants, where they are in range at the other offset. Its latest minute is its first
+    /// answer, unless the limit is over: so no minute comes twice or gets lost between two daemons.
     pub fn resumed<B>(self, offset: i16, attendant: B) -> (MachineClock<'r, R, B>, A)
         ensures told { result.0.told ≡ nothing_told }
         ensures asked { (result.0.offset ≡ offset) × (result.0.limit ≡ self.entry.limit) }
@@ -88,6 +85,20 @@ impl<'r, R: time::Clock, A: Attendant> MachineClock<'r, R, A> {
         (clock, self.attendant)
     }
 
+    /// Makes this its latest minute, which it shows the next daemon first.
+    pub fn set_to(&mut self, minute: Minute)
+        ensures { self.new ≡ record self.old { latest = Some minute } }
+    {
+        self.latest = Some(minute);
+    }
+
+    /// Returns its latest minute, if it has one.
+    pub fn latest(&self) -> Option<Minute>
+        ensures { result ≡ self.now.latest }
+    {
+        self.latest
+    }
+
     /// Returns its offset, in minutes ahead of UTC.
     pub fn offset(&self) -> i16
         ensures { result ≡ self.now.offset }
@@ -95,28 +106,68 @@ impl<'r, R: time::Clock, A: Attendant> MachineClock<'r, R, A> {
         self.offset
     }
 
+    fn answer(&mut self, now: Option<Minute>) -> Tick
+        ensures told { self.new.told ≡ self.old.told }
+        ensures resumed { now ≡ None → IfSome self.old.latest
+            (λ minute. result ≡ shown self.old.limit self.old.first minute) }
+        ensures begun { now ≡ None → self.old.latest ≡ None → (m : ℕ) → result ≡ At m
+            → A.begins self.old.attendant self.new.attendant }
+    {
+        match (now, self.latest) {
+            (Some(_), _) => self.wait(),
+            (None, Some(minute)) => self.show(minute),
+            (None, None) => self.begin(),
+        }
+    }
+
     fn wait(&mut self) -> Tick
         ensures { self.new.told ≡ self.old.told }
     {
         thread::sleep(self.rt, Duration::from_secs(1));
-        if self.attendant.is_stop_asked() {
+        // a request that comes while minutes are skipped counts once these were shown
+        if !self.has_skipped() && self.attendant.is_stop_asked() {
+            return Tick::Stop;
+        }
+        let tick = self.look();
+        if let Tick::Stop = tick {
+            self.attendant.tell_over();
+        }
+        tick
+    }
+
+    fn begin(&mut self) -> Tick
+        requires { self.old.latest ≡ None }
+        ensures told { self.new.told ≡ self.old.told }
+        ensures begun { (m : ℕ) → result ≡ At m
+            → A.begins self.old.attendant self.new.attendant }
+    {
+        if !self.attendant.wait_to_begin() {
             return Tick::Stop;
         }
         self.look()
     }
 
     fn look(&mut self) -> Tick
-        ensures { self.new.told ≡ self.old.told }
+        ensures told { self.new.told ≡ self.old.told }
+        ensures first { self.old.latest ≡ None → self.new.attendant ≡ self.old.attendant }
     {
-        let Some(seconds) = unix_seconds(self.rt) else {
-            return Tick::Failed;
-        };
-        let Some(minute) = minute_after(seconds, self.offset) else {
+        let Some(minute) = self.read() else {
             return Tick::Failed;
         };
         self.watch(minute);
         let minute = self.hold(minute);
         self.show(minute)
+    }
+
+    fn read(&self) -> Option<Minute> {
+        minute_after(unix_seconds(self.rt)?, self.offset)
+    }
+
+    fn has_skipped(&self) -> bool {
+        match self.read() {
+            Some(minute) => skips(self.latest, minute),
+            None => false,
+        }
     }
 
     fn watch(&mut self, minute: Minute)
@@ -168,14 +219,15 @@ impl<'r, R: time::Clock, A: Attendant> MachineClock<'r, R, A> {
             return Tick::At(minute);
         };
         match self.limit {
+            Some(0) => Tick::Stop,
             // none have passed if the clock went back
-            Some(limit) if limit <= minute.number().saturating_sub(first.number()) => Tick::Stop,
+            Some(limit) if limit < minute.number().saturating_sub(first.number()) => Tick::Stop,
             _ => Tick::At(minute),
         }
     }
 }
 
-fn moved(offset: i16, minute: Option<Minute>, other_offset: i16) -> Option<Minute>
+pub(crate) fn moved(offset: i16, minute: Option<Minute>, other_offset: i16) -> Option<Minute>
     ensures { IsMoved offset minute other_offset result }
 {
     minute_ahead(minute?, i32::from(other_offset) - i32::from(offset))
@@ -202,6 +254,15 @@ fn back_at(latest: Option<Minute>, shown: Minute) -> Option<ClockBack>
         latest,
         is_waited_for: is_near(latest, shown),
     })
+}
+
+fn skips(latest: Option<Minute>, minute: Minute) -> bool
+    ensures { result ≡ skips latest minute }
+{
+    match latest {
+        Some(latest) => latest.number() + 1 < minute.number(),
+        None => false,
+    }
 }
 
 fn is_near(latest: Minute, minute: Minute) -> bool
@@ -235,6 +296,8 @@ impl<'r, R: time::Clock, A: Attendant> Clock for MachineClock<'r, R, A> {
     fn tick(&mut self, now: Option<Minute>) -> Tick
         ensures resumed { now ≡ None → IfSome self.old.latest
             (λ minute. result ≡ shown self.old.limit self.old.first minute) }
+        ensures begun { now ≡ None → self.old.latest ≡ None → (m : ℕ) → result ≡ At m
+            → A.begins self.old.attendant self.new.attendant }
         ensures last { self.new.told.last ≡ Some result }
         ensures failures { self.old.told.failures ≤ self.new.told.failures }
         ensures failed { result ≡ Failed → self.old.told.failures < self.new.told.failures }
@@ -242,11 +305,21 @@ impl<'r, R: time::Clock, A: Attendant> Clock for MachineClock<'r, R, A> {
         ensures risen { self.new.told.risen
             ≡ self.old.told.risen + risen_by self.old.told.top result }
     {
-        let tick = match (now, self.latest) {
-            (Some(_), _) => self.wait(),
-            (None, Some(minute)) => self.show(minute),
-            (None, None) => self.look(),
-        };
+        let tick = self.answer(now);
         self.told.tell(tick)
+    }
+
+    fn stops_at_rest(&mut self) -> bool {
+        if !self.attendant.is_rest_awaited() {
+            return false;
+        }
+        self.told.tell(Tick::Stop);
+        true
+    }
+
+    fn look_on(&mut self) -> Option<Minute> {
+        thread::sleep(self.rt, Duration::from_secs(1));
+        self.attendant.attend();
+        self.read()
     }
 }

@@ -2,13 +2,13 @@ use crate::next_due::is_due_on;
 use crate::setup::JobNote;
 use cs_civil::{Minute, kind_of, read_minute};
 
-/// The most minutes of an outage that are counted: those of 366 days.
+/// Of an outage: 366 days, in minutes.
 const LOOKED_AT: u64 = 527_040;
 
 const MINUTE_TEXT: usize = 16;
 
-/// The minutes in a line like `outage 2024-09-13 23:30 to 2024-09-14 01:00`: the last one before
-/// the outage, and the one in which the daemon comes up. None for any other line.
+/// In a line like `outage 2024-09-13 23:30 to 2024-09-14 01:00`: the last minute before the outage,
+/// and the one in which the daemon comes up.
 fn outage_in(words: &[u8]) -> Option<(Minute, Minute)> {
     let behind = words.strip_prefix(b"outage ")?;
     let (latest, behind) = behind.split_at_checked(MINUTE_TEXT)?;
@@ -27,13 +27,17 @@ fn due_count(jobs: &[JobNote], minute: Minute) -> u64 {
     count
 }
 
-/// How many runs of the crontab the outage in a line misses: those due after the last minute before
-/// it, up to and with that of coming up. Only its first 366 days count, so that no line holds the
-/// log up for long. 0 for any other line.
+/// How many runs of the crontab the outage in a line misses. 0 for any other line.
 pub(crate) fn missed_by(words: &[u8], jobs: &[JobNote]) -> u64 {
-    let Some((latest, up)) = outage_in(words) else {
-        return 0;
-    };
+    match outage_in(words) {
+        Some((latest, up)) => due_after(jobs, latest, up),
+        None => 0,
+    }
+}
+
+/// Runs of the crontab that are due after `latest`, up to and with `up`. Only the first 366 days
+/// count, so that the log isn't held up.
+pub(crate) fn due_after(jobs: &[JobNote], latest: Minute, up: Minute) -> u64 {
     let first = latest.number() + 1;
     let end = first + up.number().saturating_sub(latest.number()).min(LOOKED_AT);
     let mut due = 0u64;

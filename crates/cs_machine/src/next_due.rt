@@ -1,28 +1,28 @@
-//! What a daemon's crontab has due next.
+//! What a daemon's crontab has due next, after the minute that the machine's clock shows.
 //!
-//! A state names what is due after the minute that the machine's clock shows. The daemon's own
-//! clock may show another: while it waits for a clock that was put back, that run may have been
-//! already. In the second in which a minute begins, a run that is due then is no longer named,
-//! though it may not have started yet.
+//! While the daemon's clock waits for one that was put back, that run may have been already. In the
+//! second in which a minute begins, a run that is due then is no longer named, though it may not
+//! have started yet.
 
-ghost use Rattle.std.specs.Prelude.{◌<◌};
+ghost use Rattle.std.specs.Prelude.{◌≡◌, ◌<◌};
+ghost use Rattle.cs_machine.specs.Busy.{is_due_on};
 
 use crate::setup::JobNote;
 use cs_civil::{DayKind, Minute, kind_of};
 
-/// A job, and the minute at which its line is due next.
 #[derive(Clone, Copy)]
 pub(crate) struct NextDue<'a> {
     pub(crate) note: &'a JobNote,
     pub(crate) minute: Minute,
 }
 
-/// The most minutes ahead that are looked at: those of 8 days.
+/// 8 days, in minutes.
 const AHEAD: u64 = 11_520;
 
 /// False for a job of the anacrontab.
 pub(crate) fn is_due_on(note: &JobNote, kind: DayKind, minute_of_day: u16) -> bool
     requires { minute_of_day < 1440 }
+    ensures { result ≡ is_due_on note.now.when kind minute_of_day }
 {
     match &note.when {
         Some(when) => when.is_due_on(kind, minute_of_day),
@@ -50,7 +50,7 @@ fn first_due<'a>(jobs: &'a [JobNote], from: u64, end: u64) -> Option<NextDue<'a>
     None
 }
 
-/// Minutes for which it's known that no line is due, so that each is looked at about once.
+/// Minutes in which no line is due, so that each is looked at about once.
 #[derive(Clone, Copy)]
 pub(crate) struct QuietTime {
     from: u64,
@@ -62,7 +62,7 @@ impl QuietTime {
     pub(crate) const NONE: QuietTime = QuietTime { from: 0, end: 0 };
 }
 
-/// What is due first after a minute, within the next 8 days.
+/// Within the next 8 days.
 pub(crate) fn next_due<'a>(
     jobs: &'a [JobNote],
     quiet: &mut QuietTime,

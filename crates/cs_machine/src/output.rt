@@ -101,8 +101,7 @@ fn add_other(
     Ok(())
 }
 
-/// Adds the names of a folder's other files of this file's job. A name that can't be read or isn't
-/// UTF-8 is ignored.
+/// A name that can't be read or isn't UTF-8 is ignored.
 fn add_others<R: Files>(
     rt: &R,
     alloc: Global,
@@ -120,8 +119,7 @@ fn add_others<R: Files>(
     Ok(())
 }
 
-/// Opens a file for appending, with two handles, and makes it if it isn't there. Anything else
-/// isn't opened: a pipe would keep the daemon waiting.
+/// With two handles, for appending. Only a file is opened: a pipe would keep the daemon waiting.
 fn open_twice<R: Files>(rt: &R, path: &str) -> io::Result<(R::File, R::File)> {
     match fs::symlink_metadata(rt, path) {
         Ok(found) => if !found.is_file() {
@@ -137,8 +135,7 @@ fn open_twice<R: Files>(rt: &R, path: &str) -> io::Result<(R::File, R::File)> {
 }
 
 impl OutputFolder {
-    /// Returns the folder at that path, whether it's there or not. It keeps `keep` files of each
-    /// job, at least one.
+    /// Returns the folder at that path, there or not, with `keep` files of each job, at least one.
     pub fn new(alloc: Global, path: &str, keep: u64) -> Result<OutputFolder, AllocError>
         ensures path { IfOk result (λ folder. string_bytes folder.path ≡ path.now) }
         ensures keep { IfOk result (λ folder. folder.keep ≡ keep) }
@@ -163,7 +160,7 @@ impl OutputFolder {
         Ok(path_in(alloc, self.path.as_str(), file_name(name)?)?)
     }
 
-    /// Removes the oldest files of this file's job. What can't be removed stays.
+    /// What can't be removed stays.
     fn make_room<R: Files>(&self, rt: &R, alloc: Global, file: &[u8]) -> io::Result<()> {
         for name in &self.old(rt, alloc, file)? {
             let path = self.path_of(alloc, name.as_bytes())?;
@@ -172,8 +169,8 @@ impl OutputFolder {
         Ok(())
     }
 
-    /// Opens the file of a run with two handles, after removing its job's oldest files, so that
-    /// with it at most as many as are kept remain. What can't be listed or removed stays.
+    /// Opens the file of a run with two handles, after removing its job's oldest files, as many as
+    /// needed. What can't be listed or removed stays.
     pub(crate) fn open<R: Files>(
         &self,
         rt: &R,

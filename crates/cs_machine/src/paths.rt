@@ -15,7 +15,7 @@ fn has_kept_out(bytes: &[u8]) -> bool
         .any(|byte| *byte == b'/' || *byte == b' ' || *byte == b'\t')
 }
 
-/// A name as text. An error exactly if it isn't UTF-8, has a blank, or can't be a file's name.
+/// An error exactly if it isn't UTF-8, has a blank, or can't be a file's name.
 pub(crate) fn file_name(name: &[u8]) -> io::Result<&str>
     ensures text { IfOk result (λ text. (text.now ≡ name.now) × IsFileName name.now) }
     ensures refused { IsErr result → ¬ (IsUtf8 name.now × IsFileName name.now) }
@@ -35,7 +35,7 @@ pub(crate) fn path_in(alloc: Global, folder: &str, name: &str) -> Result<String,
     Ok(path)
 }
 
-/// Where that file is written first. The blank in its name sets it apart from every identifier's.
+/// The blank in its name sets it apart from every identifier's.
 pub(crate) fn new_path_in(alloc: Global, folder: &str, name: &str) -> Result<String, AllocError>
     ensures { IfOk result (λ path. string_bytes path ≡ new_file_of folder.now name.now) }
 {

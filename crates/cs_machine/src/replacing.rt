@@ -24,9 +24,29 @@ pub(crate) fn read_first<R: Files>(
     Ok(text)
 }
 
-/// Replaces a file so that a crash leaves the old one or the new one: writes a new file, flushes it
-/// to the disk, renames it, and flushes the folder. What stands in the new file's place is removed
-/// first, and not opened: it may be a pipe or a link.
+/// What stands there is removed, not opened: it may be a pipe or a link.
+fn write_new<R: Files>(rt: &R, path: &str, text: &[u8]) -> io::Result<R::File> {
+    remove_file(rt, path)?;
+    let mut file = OpenOptions::new()
+        .write(true)
+        .create_new(true)
+        .open(rt, path)?;
+    file.write_all(text)?;
+    Ok(file)
+}
+
+/// The end of this process leaves the old file or the new one. It doesn't wait for the disk.
+pub(crate) fn swap_file<R: Files>(
+    rt: &R,
+    new_path: &str,
+    path: &str,
+    text: &[u8],
+) -> io::Result<()> {
+    write_new(rt, new_path, text)?;
+    fs::rename(rt, new_path, path)
+}
+
+/// A crash leaves the old file or the new one: both file and folder are flushed to the disk.
 pub(crate) fn replace_file<R: Files>(
     rt: &R,
     folder: &str,
@@ -34,12 +54,7 @@ pub(crate) fn replace_file<R: Files>(
     path: &str,
     text: &[u8],
 ) -> io::Result<()> {
-    remove_file(rt, new_path)?;
-    let mut file = OpenOptions::new()
-        .write(true)
-        .create_new(true)
-        .open(rt, new_path)?;
-    file.write_all(text)?;
+    let file = write_new(rt, new_path, text)?;
     file.sync_all()?;
     fs::rename(rt, new_path, path)?;
     fs::open(rt, folder)?.sync_all()

@@ -1,4 +1,4 @@
-ghost use Rattle.std.specs.Prelude.{◌≡◌, IfOk, IfSome, false};
+ghost use Rattle.std.specs.Prelude.{◌≡◌, ◌-◌, ◌/◌, IfOk, IfSome, false};
 ghost use Rattle.std.specs.List.{list_any};
 ghost use Rattle.cs_place.specs.Places.{is_control};
 ghost use Rattle.cs_machine.specs.Report.{has_fault, is_old};
@@ -22,11 +22,11 @@ pub struct Report {
     lines: Vec<u8>,
 }
 
-/// For this many seconds a state is fresh, and a stamp that couldn't be written counts.
+/// So long a state is fresh, and a stamp that couldn't be written counts.
 const SECONDS: u64 = 120;
 
-/// The seconds since 1970-01-01 00:00 UTC of a text like `2024-09-13T23:30:01Z`, from 1970-01-02
-/// on. None for any other text.
+/// In seconds since 1970-01-01 00:00 UTC, from 1970-01-02 on, of a text like
+/// `2024-09-13T23:30:01Z`.
 fn read_moment(text: &[u8]) -> Option<u64>
     ensures { IfSome result (λ at. text.now ≡ moment_text at) }
 {
@@ -63,7 +63,7 @@ fn plain_text(value: &Value) -> Result<&str, Misread>
     }
 }
 
-/// None if it is null or, as from a daemon of an earlier version, absent.
+/// None if it is null, or absent, as in earlier versions.
 fn text_if_told(told: Option<&Value>) -> Result<Option<&str>, Misread> {
     let Some(told) = told else {
         return Ok(None);
@@ -92,8 +92,7 @@ fn seconds_if_told(moment: Option<&str>) -> Result<Option<u64>, Misread> {
     }
 }
 
-/// Refuses a checksum that isn't 64 hexadecimal digits, in lower case. A daemon of an earlier
-/// version writes none.
+/// Earlier versions write none; else it has 64 hexadecimal digits, in lower case.
 fn see_checksum(value: &Value) -> Result<(), Misread> {
     let Some(told) = value.get("certificate_sha256") else {
         return Ok(());
@@ -118,7 +117,6 @@ fn items_at<'v>(value: &'v Value, name: &str) -> Result<&'v [Value], Misread> {
     }
 }
 
-/// Adds the texts that are there, each after its front.
 fn push_told(lines: &mut Vec<u8>, texts: &[(&str, Option<&str>)]) -> Result<(), AllocError> {
     for (front, told) in texts {
         if let Some(told) = told {
@@ -129,7 +127,7 @@ fn push_told(lines: &mut Vec<u8>, texts: &[(&str, Option<&str>)]) -> Result<(), 
     Ok(())
 }
 
-/// Adds members that are numbers below 2^64, each after its front.
+/// Numbers below 2^64, each after its front.
 fn push_counts(
     lines: &mut Vec<u8>,
     value: &Value,
@@ -198,6 +196,18 @@ fn push_running(alloc: Global, lines: &mut Vec<u8>, value: &Value) -> Result<boo
     Ok(has_late)
 }
 
+/// It is there only while a daemon waits for runs of an earlier one.
+fn push_left(lines: &mut Vec<u8>, value: &Value) -> Result<(), Misread> {
+    if value.get("left_running").is_none() {
+        return Ok(());
+    }
+    for run in items_at(value, "left_running")? {
+        let front = "waiting for a run of an earlier daemon: ";
+        push_told(lines, &[(front, Some(plain_text(run)?)), ("\n", Some(""))])?;
+    }
+    Ok(())
+}
+
 fn push_waiting(lines: &mut Vec<u8>, value: &Value) -> Result<(), Misread> {
     for name in items_at(value, "waiting")? {
         let name = plain_text(name)?;
@@ -210,7 +220,7 @@ fn push_waiting(lines: &mut Vec<u8>, value: &Value) -> Result<(), Misread> {
     Ok(())
 }
 
-/// A daemon of an earlier version doesn't write `missed`.
+/// Earlier versions write no `missed`; `ended_at_limit` is there only if runs are ended in time.
 fn push_faults(alloc: Global, lines: &mut Vec<u8>, value: &Value) -> Result<(), Misread> {
     let members = [
         ("skipped ", "skipped"),
@@ -226,6 +236,13 @@ fn push_faults(alloc: Global, lines: &mut Vec<u8>, value: &Value) -> Result<(), 
     };
     lines.extend_from_slice(b", missed ")?;
     push_number(alloc, lines, u128::from(missed))?;
+    if value.get("ended_at_limit").is_some() {
+        push_counts(
+            lines,
+            value,
+            &[(", ended at their limit ", "ended_at_limit")],
+        )?;
+    }
     lines.extend_from_slice(b"\n")?;
     Ok(())
 }
@@ -242,6 +259,7 @@ fn report_of(alloc: Global, value: &Value) -> Result<Report, Misread> {
     if is_stopping {
         lines.extend_from_slice(b"nothing more is started\n")?;
     }
+    push_left(&mut lines, value)?;
     let has_late = push_running(alloc, &mut lines, value)?;
     push_waiting(&mut lines, value)?;
     push_faults(alloc, &mut lines, value)?;
@@ -255,8 +273,9 @@ fn report_of(alloc: Global, value: &Value) -> Result<Report, Misread> {
 }
 
 /// Reads the text of a daemon's state. A fault if it isn't JSON, a member is absent or has another
-/// type, or a text in it holds a control character; other members are ignored. `next_due`, `missed`
-/// and `certificate_sha256` may be absent, and so may a run's `until` and `may_meet`.
+/// form, or a text in it holds a control character; other members are ignored. `next_due`,
+/// `missed`, `ended_at_limit`, `certificate_sha256`, `left_running`, and a run's `until` and
+/// `may_meet` may be absent.
 pub fn read_report(alloc: Global, state: &[u8]) -> Result<Report, Misread> {
     let value = parse(alloc, state)?;
     report_of(alloc, &value)
@@ -278,9 +297,16 @@ impl Report {
         }
     }
 
-    /// Whether it is more than two minutes older than this moment, in seconds since 1970-01-01
-    /// 00:00 UTC. A daemon that starts nothing more writes no more states: its last isn't called
-    /// old.
+    /// How many whole minutes old it is at this moment, in seconds since 1970-01-01 00:00 UTC. 0 if
+    /// the clock was put back.
+    pub fn minutes_old(&self, now: u64) -> u64
+        ensures { result ≡ (now - self.now.at) / 60 }
+    {
+        now.saturating_sub(self.at) / 60
+    }
+
+    /// Whether it is more than two minutes old at this moment, in the same seconds, and its daemon
+    /// still starts runs.
     pub fn is_old(&self, now: u64) -> bool
         ensures { result ≡ is_old self.now.is_stopping self.now.at now }
     {

@@ -1,5 +1,5 @@
 ghost use Rattle.std.specs.Prelude.{◌≡◌, IfOk, string_bytes};
-ghost use Rattle.cs_machine.specs.Files.{reload_file_of, stop_file_of};
+ghost use Rattle.cs_machine.specs.Files.{drain_file_of, reload_file_of, stop_file_of};
 
 use crate::paths::path_in;
 use crate::replacing::remove_file;
@@ -9,8 +9,8 @@ use std::io::ErrorKind;
 use std::rt::Files;
 use std::{fs, io};
 
-/// A file by which the daemon that uses a folder of stamps is asked for something. The blank in its
-/// name sets it apart from every stamp.
+/// A file that asks the daemon of a folder of stamps for something. The blank in its name sets it
+/// apart from every stamp.
 #[derive(Drop)]
 pub struct RequestFile {
     path: String,
@@ -25,8 +25,7 @@ impl RequestFile {
         Ok(RequestFile { path })
     }
 
-    /// Returns the file that asks a folder's daemon to read its tables again, whether it's there or
-    /// not.
+    /// Returns the file that asks the daemon to read its tables again.
     pub fn to_reload(alloc: Global, folder: &str) -> Result<RequestFile, AllocError>
         ensures { IfOk result (λ file. string_bytes file.path ≡ reload_file_of folder.now) }
     {
@@ -34,7 +33,15 @@ impl RequestFile {
         Ok(RequestFile { path })
     }
 
-    /// Whether anything is there: a file, a folder, or a link, even one that leads nowhere.
+    /// Returns the file that, beside that for reload, asks the daemon to start nothing more before.
+    pub fn to_drain(alloc: Global, folder: &str) -> Result<RequestFile, AllocError>
+        ensures { IfOk result (λ file. string_bytes file.path ≡ drain_file_of folder.now) }
+    {
+        let path = path_in(alloc, folder, "cronsafe drain")?;
+        Ok(RequestFile { path })
+    }
+
+    /// Whether anything is there, even a link that leads nowhere.
     pub fn is_there<R: Files>(&self, rt: &R) -> bool {
         fs::symlink_metadata(rt, self.path.as_str()).is_ok()
     }

@@ -10,7 +10,7 @@ use crate::next_due::{QuietTime, next_due};
 use crate::setup::Setup;
 use crate::state::State;
 use crate::state_text::state_text;
-use std::alloc::Global;
+use std::alloc::{AllocError, Global};
 use std::io::Write;
 use std::{io, mem, time};
 
@@ -20,21 +20,20 @@ use std::{io, mem, time};
 /// `2024-09-13T23:30:01Z started line 1 due 2024-09-13 23:30`
 ///
 /// With times, the end of a run whose start was written is followed by the seconds between them, 0
-/// if the clock was put back meanwhile. If the clock can't be read, a line has no time. After the
-/// line of a late run comes one with the jobs whose runs it may meet, if there are any:
+/// if the clock was put back. If the clock can't be read, a line has no time. After the line of a
+/// late run comes one with the jobs whose runs it may meet, if there are any:
 ///
 /// `2024-09-13T23:42:00Z line 1 due 2024-09-13 23:30 may meet line 5, job backup`
 #[derive(Drop)]
 pub struct RunLog<'r, R, W> {
-    rt: &'r R,
-    alloc: Global,
+    pub(crate) rt: &'r R,
+    pub(crate) alloc: Global,
     out: W,
     is_timed: bool,
-    setup: Setup<'r>,
+    pub(crate) setup: Setup<'r>,
     line: Vec<u8>,
-    state: State,
+    pub(crate) state: State,
     quiet: QuietTime,
-    /// What hooks are to be called for.
     calls: Vec<HookCall>,
 }
 
@@ -88,8 +87,24 @@ impl<'r, R: time::Clock, W: Write> RunLog<'r, R, W> {
         self.out.write_all(self.line.as_slice())
     }
 
-    /// Writes a line of the daemon, and by the same call the line that follows it. If memory runs
-    /// out for the state, the line is written nevertheless.
+    /// Takes what a runner has left for the log, and writes it as [`note`](RunLog::note) does, even
+    /// if memory runs out for the state.
+    pub fn note_left(&mut self, text: &[u8]) -> io::Result<()>
+        ensures calls { (kept : Bool) × IsCalled self.old.setup text.now kept
+            self.old.calls.items self.new.calls.items }
+        ensures timed { self.old.is_timed ≡ true → OnOk result ((at : Option ℕ)
+            × Appends (W.contents self.old.out) (W.contents self.new.out)
+            (line_text at text.now None)) }
+        ensures untimed { self.old.is_timed ≡ false → self.new.out ≡ self.old.out }
+        ensures left { (self.new.setup ≡ self.old.setup)
+            × (self.new.is_timed ≡ self.old.is_timed) }
+    {
+        let at = unix_seconds(self.rt);
+        let _ = self.take(text, at);
+        self.note(text)
+    }
+
+    /// Writes the line that follows by the same call, even if memory runs out for the state.
     fn tell(&mut self, words: &[u8]) -> io::Result<()>
         ensures calls { (kept : Bool) × IsCalled self.old.setup words.now kept
             self.old.calls.items self.new.calls.items }
@@ -108,8 +123,7 @@ impl<'r, R: time::Clock, W: Write> RunLog<'r, R, W> {
         self.out.write_all(self.line.as_slice())
     }
 
-    /// Writes a line of the daemon as it is. If memory runs out for the state, the line is written
-    /// nevertheless.
+    /// Even if memory runs out for the state.
     fn pass(&mut self, words: &[u8], line: &[u8]) -> io::Result<()>
         ensures calls { (kept : Bool) × IsCalled self.old.setup words.now kept
             self.old.calls.items self.new.calls.items }
@@ -123,7 +137,6 @@ impl<'r, R: time::Clock, W: Write> RunLog<'r, R, W> {
         self.out.write_all(line)
     }
 
-    /// Returns how many seconds a run took, if the line reports its end.
     fn take(&mut self, words: &[u8], at: Option<u64>) -> Option<u64>
         ensures calls { (kept : Bool) × IsCalled self.old.setup words.now kept
             self.old.calls.items self.new.calls.items }
@@ -134,8 +147,7 @@ impl<'r, R: time::Clock, W: Write> RunLog<'r, R, W> {
         self.state.take(words, at, self.setup.jobs)
     }
 
-    /// Takes what happened to runs since the last call, in the order of the log's lines: at most
-    /// 256 calls, and none for a daemon without hooks.
+    /// Takes the calls of hooks since the last time, in the order of the log's lines: at most 256.
     pub fn take_calls(&mut self) -> Vec<HookCall>
         ensures taken { result.items ≡ self.old.calls.items }
         ensures none { self.new.calls.items ≡ [] }
@@ -158,8 +170,13 @@ impl<'r, R: time::Clock, W: Write> RunLog<'r, R, W> {
         self.note(why)
     }
 
-    /// The state as one JSON object in one line, if a line came since the last call, or that was a
-    /// minute ago. None too if the clock can't be read or memory runs out.
+    /// Returns which stamps aren't written, for the lock at the daemon's end.
+    pub fn last_word(&self) -> Result<Vec<u8>, AllocError> {
+        self.state.last_word()
+    }
+
+    /// The state as one JSON object in one line, if a line came or a minute passed since the last
+    /// call. None too if the clock can't be read or memory runs out.
     pub fn state_if_due(&mut self) -> Option<Vec<u8>>
         ensures left { (self.new.out ≡ self.old.out) × (self.new.setup ≡ self.old.setup)
             × (self.new.calls ≡ self.old.calls) }

@@ -11,11 +11,13 @@ pub struct RunnerWords<'a> {
     pub has_home: bool,
     /// Whether a signal that ended a command is reported.
     pub tells_signals: bool,
-    /// The path of the folder in which each run gets a file for its output. If none, output goes to
-    /// the daemon's own streams.
+    /// The folder in which each run gets a file for its output. If none, output goes to the
+    /// daemon's own streams.
     pub output: Option<&'a str>,
     /// How many files of each job are kept there, at least 1.
     pub keep: u64,
+    /// The offset of the plan's clock, in minutes ahead of UTC, if runs are ended in time.
+    pub offset: Option<i16>,
 }
 
 /// What one runner is made with.
@@ -27,6 +29,8 @@ pub struct RunnerSetup {
     pub tells_signals: bool,
     /// The folder for output, if there is one.
     pub output: Option<OutputFolder>,
+    /// As in [`RunnerWords`].
+    pub offset: Option<i16>,
 }
 
 fn runner_by<W: Drop, F: Fn(RunnerSetup) -> W + Drop>(
@@ -45,6 +49,7 @@ fn runner_by<W: Drop, F: Fn(RunnerSetup) -> W + Drop>(
         has_home: words.has_home,
         tells_signals: words.tells_signals,
         output,
+        offset: words.offset,
     }))
 }
 

@@ -7,12 +7,12 @@ use cs_schedule::Schedule;
 /// What a daemon reports of a job besides its runs.
 #[derive(Drop)]
 pub struct JobNote {
-    /// What the names of its runs begin with, such as `line 3 due ` or `job backup at `.
+    /// How the names of its runs begin, such as `line 3 due ` or `job backup at `.
     pub front: Bytes,
     /// The longest time of a run, in minutes.
     pub max: u64,
-    /// The names of the jobs whose runs may meet a late run of it, such as `line 5, job backup`;
-    /// empty if there are none.
+    /// The jobs whose runs may meet a late run of it, such as `line 5, job backup`; empty if there
+    /// are none.
     pub peers: Bytes,
     /// When its line of the crontab is due; none for a job of the anacrontab.
     pub when: Option<Schedule>,
@@ -41,6 +41,8 @@ pub struct Setup<'a> {
     pub jobs: &'a [JobNote],
     /// Whether it has hooks: commands of the operator's, started at what happens to a run.
     pub has_hooks: bool,
+    /// Whether runs are ended in time.
+    pub has_limits: bool,
 }
 
 fn note_of<'a>(jobs: &'a [JobNote], run: &[u8]) -> Option<&'a JobNote>
@@ -63,8 +65,7 @@ pub(crate) fn peers_of<'a>(jobs: &'a [JobNote], run: &[u8]) -> &'a [u8]
     }
 }
 
-/// The second by which a run that started in `since` is to end. None for a run of no job here, and
-/// where 64 bits don't hold it.
+/// In seconds, as `since`. None for a run of no job here, and where 64 bits don't hold it.
 pub(crate) fn end_of(jobs: &[JobNote], run: &[u8], since: u64) -> Option<u64> {
     let note = note_of(jobs, run)?;
     since.checked_add(note.max.checked_mul(60)?)

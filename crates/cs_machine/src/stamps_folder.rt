@@ -9,6 +9,7 @@ use cs_civil::Day;
 use cs_device::{Failures, Stamp, StampStore};
 use std::alloc::Global;
 use std::io::ErrorKind;
+use std::os::unix::fs::MetadataExt;
 use std::rt::Files;
 use std::{fs, io};
 
@@ -28,6 +29,8 @@ pub struct StampsFolder<'r, 'f, R> {
     rt: &'r R,
     alloc: Global,
     folder: &'f str,
+    /// The folder's device, and its number there.
+    place: (u64, u64),
     failures: Failures,
 }
 
@@ -64,6 +67,7 @@ impl<'r, 'f, R: Files> StampsFolder<'r, 'f, R> {
                 rt,
                 alloc,
                 folder,
+                place: (found.dev(), found.ino()),
                 failures: Failures::none(),
             }),
             Ok(_) | Err(_) => Err(NoFolder),
@@ -77,8 +81,7 @@ impl<'r, 'f, R: Files> StampsFolder<'r, 'f, R> {
         self.failures = Failures::none();
     }
 
-    /// The day in an identifier's file, none if it is empty or absent. Anything but a file isn't
-    /// opened: a pipe would keep the daemon waiting.
+    /// None if it is empty or absent. Only a file is opened: a pipe would keep the daemon waiting.
     fn look(&self, identifier: &[u8]) -> io::Result<Option<Day>> {
         let path = path_in(self.alloc, self.folder, file_name(identifier)?)?;
         match fs::metadata(self.rt, path.as_str()) {
@@ -91,7 +94,18 @@ impl<'r, 'f, R: Files> StampsFolder<'r, 'f, R> {
         day_in(text.as_slice())
     }
 
+    /// Another daemon may use a folder that has been put there since.
+    fn is_there(&self) -> bool {
+        match fs::metadata(self.rt, self.folder) {
+            Ok(found) => (found.dev(), found.ino()) == self.place,
+            Err(_) => false,
+        }
+    }
+
     fn replace(&self, identifier: &[u8], day: Day) -> io::Result<()> {
+        if !self.is_there() {
+            return Err(io::Error::from(ErrorKind::NotFound));
+        }
         let name = file_name(identifier)?;
         let path = path_in(self.alloc, self.folder, name)?;
         let new_path = new_path_in(self.alloc, self.folder, name)?;

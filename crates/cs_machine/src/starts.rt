@@ -3,10 +3,9 @@
 use cs_civil::Bytes;
 use std::alloc::Global;
 
-/// Notes what a line reports of a run in this second, among the runs that have started, each with
-/// the second of its start. Returns how many seconds a run took, if the line reports its end: 0 if
-/// the clock was put back, none if the start wasn't noted or there is no time. A start without a
-/// time isn't noted, nor one for which memory runs out.
+/// Returns how many seconds a run took, if the line reports its end: 0 if the clock was put back,
+/// none if the start wasn't noted or there is no time. A start without a time isn't noted, nor one
+/// for which memory runs out.
 pub(crate) fn note_run(
     alloc: Global,
     starts: &mut Vec<(Bytes, u64)>,
@@ -32,7 +31,7 @@ pub(crate) fn note_run(
     None
 }
 
-/// Whether the words report the end of the run of this name, or that it couldn't be started.
+/// Whether the words report its end, or that it couldn't be started.
 pub(crate) fn is_last_of(words: &[u8], name: &[u8]) -> bool {
     if let Some(told) = words.strip_prefix(b"not started ") {
         return told == name;

@@ -3,7 +3,7 @@ use crate::line_text::moment_text;
 use crate::next_due::NextDue;
 use crate::setup::{JobNote, Setup, end_of, peers_of};
 use crate::state::State;
-use cs_civil::{date_text, push_number};
+use cs_civil::{Bytes, date_text, push_number};
 use cs_place::push_shown;
 use std::alloc::{AllocError, Global};
 
@@ -59,7 +59,7 @@ fn push_members(
     Ok(())
 }
 
-/// Adds the runs that run, in the order in which they started.
+/// In the order in which they started.
 fn push_running<'x>(
     alloc: Global,
     text: &mut Vec<u8>,
@@ -88,6 +88,19 @@ fn push_running<'x>(
         front = b",{".as_slice();
     }
     Ok(())
+}
+
+fn push_left(alloc: Global, text: &mut Vec<u8>, left: &[Bytes]) -> Result<(), AllocError> {
+    let mut front = b",\"left_running\":[".as_slice();
+    for run in left {
+        text.extend_from_slice(front)?;
+        push_text(alloc, text, run.as_slice())?;
+        front = b",".as_slice();
+    }
+    if left.is_empty() {
+        return Ok(());
+    }
+    text.extend_from_slice(b"]")
 }
 
 /// `null` if nothing is due.
@@ -135,9 +148,8 @@ fn push_setup(
     push_members(alloc, text, &rest)
 }
 
-/// The text of a state at a moment, in seconds since 1970-01-01 00:00 UTC: one JSON object in one
-/// line. The names of runs are in it as a log shows them; those of the tables that are run are
-/// UTF-8, since declarations name them.
+/// At a moment in seconds since 1970-01-01 00:00 UTC. The names of runs are in it as a log shows
+/// them; those of the tables that are run are UTF-8, since declarations name them.
 pub(crate) fn state_text(
     alloc: Global,
     setup: &Setup<'_>,
@@ -168,9 +180,15 @@ pub(crate) fn state_text(
         }
         push_text(alloc, &mut text, name.as_slice())?;
     }
-    text.extend_from_slice(b"],\"next_due\":")?;
+    text.extend_from_slice(b"]")?;
+    push_left(alloc, &mut text, state.left.as_slice())?;
+    text.extend_from_slice(b",\"next_due\":")?;
     push_next(alloc, &mut text, next)?;
     push_members(alloc, &mut text, &counts)?;
+    if setup.has_limits {
+        let limits = [("ended_at_limit", Told::Count(state.counts.limits))];
+        push_members(alloc, &mut text, &limits)?;
+    }
     text.extend_from_slice(b"}\n")?;
     Ok(text)
 }

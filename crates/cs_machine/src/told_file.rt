@@ -8,8 +8,8 @@ use std::io::ErrorKind;
 use std::rt::Files;
 use std::{fs, io};
 
-/// A file in which the daemon that uses a folder of stamps writes its state or an answer. The blank
-/// in its name sets it apart from every stamp.
+/// A file in which the daemon of a folder of stamps writes its state or an answer. The blank in its
+/// name sets it apart from every stamp.
 #[derive(Drop)]
 pub struct ToldFile<'f> {
     folder: &'f str,
@@ -17,7 +17,7 @@ pub struct ToldFile<'f> {
     new_path: String,
 }
 
-/// The most bytes of such a file that are read: a mebibyte.
+/// In bytes: a mebibyte.
 const MOST: u64 = 1_048_576;
 
 impl<'f> ToldFile<'f> {
@@ -31,7 +31,7 @@ impl<'f> ToldFile<'f> {
         ToldFile::of(alloc, folder, "cronsafe state")
     }
 
-    /// Returns the file in which a folder's daemon answers a request, whether it's there or not.
+    /// Returns the file in which the daemon answers a request.
     pub fn answer(alloc: Global, folder: &'f str) -> Result<ToldFile<'f>, AllocError>
         ensures path { IfOk result (λ file. string_bytes file.path ≡ answer_file_of folder.now) }
         ensures new_path { IfOk result
@@ -57,7 +57,7 @@ impl<'f> ToldFile<'f> {
         })
     }
 
-    /// Writes the file whole, so that a crash leaves the old text or the new one.
+    /// Writes the file: a crash leaves the old text or the new one.
     pub fn replace<R: Files>(&self, rt: &R, text: &[u8]) -> io::Result<()> {
         replace_file(
             rt,
@@ -68,8 +68,8 @@ impl<'f> ToldFile<'f> {
         )
     }
 
-    /// Reads the file. An error too if it has more than a mebibyte. A folder, a pipe, a device or a
-    /// link isn't opened: that is an error as well.
+    /// Reads the file. An error if it has more than a mebibyte, or is a folder, a pipe, a device or
+    /// a link, which isn't opened.
     pub fn read<R: Files>(&self, rt: &R, alloc: Global) -> io::Result<Vec<u8>> {
         if !fs::symlink_metadata(rt, self.path.as_str())?.is_file() {
             return Err(io::Error::from(ErrorKind::InvalidInput));

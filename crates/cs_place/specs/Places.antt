@@ -1,12 +1,12 @@
 -- Where the commands of a gathered table come from, by the comments above them.
-use Rattle.std.specs.Prelude.{ℕ, ◌+◌, Bool, not, ◌&&◌, ◌||◌, ◌==◌, nat_eq, nat_lt, if◌then◌else◌, List, [], ◌∷◌, ◌++◌, length, drop, reverse, Option, Some, None, codes, decimal, flat_map}
+use Rattle.std.specs.Prelude.{ℕ, ◌+◌, Bool, not, ◌&&◌, ◌||◌, ◌==◌, nat_eq, nat_lt, if◌then◌else◌, List, [], ◌∷◌, ◌++◌, length, drop, reverse, Option, Some, None, codes, decimal}
 use Rattle.std.specs.Char.{is_ascii_alphanumeric}
 use Rattle.std.specs.List.{find, list_all, list_any, starts_with}
 use Rattle.cs_table.specs.SettingReading.{trimmed}
 use Rattle.cs_table.specs.Text.{lines_of, after, is_solid}
 use Rattle.cs_crontab.specs.Crontab.{CommandLine, Table}
 use Rattle.cs_place.specs.Mark.{is_gathered}
-use Rattle.cs_place.specs.Shown.{shown}
+use Rattle.cs_place.specs.Shown.{shown_text}
 use Rattle.cs_place.specs.declared.places.Place.{Place}
 
 -- ---- what a comment says
@@ -96,7 +96,7 @@ place_text place = place.origin ++ (codes " (" ++ (place.user ++ codes ")"))
 -- `line 14 is /etc/cron.d/munin:12 (munin): COMMAND`
 unfoldable pub place_line : Place → List ℕ → List ℕ
 place_line place command = codes "line " ++ (decimal place.line ++ (codes " is "
-    ++ (place_text place ++ (codes ": " ++ (flat_map shown command ++ 10 ∷ [])))))
+    ++ (place_text place ++ (codes ": " ++ (shown_text command ++ 10 ∷ [])))))
 
 abbrev pub line_told : List ℕ → Bool → Option Place → List ℕ → List ℕ
 line_told front told None command = []

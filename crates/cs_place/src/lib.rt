@@ -11,4 +11,4 @@ pub use part_name::{PART, is_part_name};
 pub use places::{
     Place, place_of, push_place_text, push_places, push_places_told, read_places, split_last_word,
 };
-pub use shown::{push_byte, push_shown};
+pub use shown::{harmful, push_byte, push_hex, push_shown};

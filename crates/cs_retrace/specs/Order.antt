@@ -4,13 +4,15 @@ use Rattle.std.specs.Ordering.{nat_cmp, ordering_then}
 use Rattle.std.specs.declared.cmp.Ordering.{Ordering}
 use Rattle.std.specs.List.Sorted.{IsPermutation, IsSortedByKey}
 use Rattle.cs_retrace.specs.declared.entry.Turn.{Turn}
-use Rattle.cs_retrace.specs.declared.entry.Turn.TheVariants.{Comes, Begins, Follows, Goes}
+use Rattle.cs_retrace.specs.declared.entry.Turn.TheVariants.{Comes, Begins, Crashes, Follows, Goes, Returns}
 use Rattle.cs_retrace.specs.declared.entry.Entry.{Entry}
 
 abbrev pub turn_number : Turn → ℕ
 turn_number Comes = 0
 turn_number Begins = 1
 turn_number Follows = 2
+turn_number Crashes = 2
+turn_number Returns = 2
 turn_number Goes = 3
 
 -- its minute, its turn, and its order among those of that minute and turn

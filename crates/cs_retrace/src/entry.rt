@@ -12,6 +12,10 @@ pub(crate) enum Turn {
     Begins,
     /// Then runs end, get locks or are caught up.
     Follows,
+    /// Among these, a daemon goes down without a word.
+    Crashes,
+    /// Among these, one comes up after that.
+    Returns,
     /// At last the daemon goes down.
     Goes,
 }
@@ -24,6 +28,8 @@ impl Turn {
             Turn::Comes => 0,
             Turn::Begins => 1,
             Turn::Follows => 2,
+            Turn::Crashes => 2,
+            Turn::Returns => 2,
             Turn::Goes => 3,
         }
     }

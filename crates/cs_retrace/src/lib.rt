@@ -1,6 +1,7 @@
 //! Gives the script of the history in a daemon's log, and reads longest times of jobs.
 #![tactic(auto)]
 
+mod crash;
 mod entry;
 mod maxes;
 mod moment;

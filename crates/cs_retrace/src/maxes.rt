@@ -1,6 +1,5 @@
-//! The longest times of jobs, as `learn` prints them and `draft` reads them: a line each, as
-//! `line 3 25`, for 25 minutes of the job on line 3 of the crontab, or `job cron.daily 25`, for
-//! those of that job of the anacrontab.
+//! The longest times of jobs, as `learn` prints them and `draft` reads them: `line 3 25` gives 25
+//! minutes to the job on line 3 of the crontab, `job cron.daily 25` to that job of the anacrontab.
 ghost use Rattle.std.specs.Prelude.{◌≡◌, ◌==◌, Err, IfErr, IfOk, None, Some, bytes_eq, option_map};
 ghost use Rattle.std.specs.List.{list_any};
 ghost use Rattle.cs_retrace.specs.Maxes.{given_in, has_job, is_given, is_quiet, is_same, max_in, max_of, name_in};

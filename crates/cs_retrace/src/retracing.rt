@@ -21,11 +21,11 @@ fn in_order(events: Vec<Entry>) -> Result<Vec<Entry>, AllocError>
 }
 
 /// Returns the script whose replay is the history in a log that `run --log` writes: that of its
-/// last daemon. It is empty if no line of the log has a time, and none if it has more than
-/// [`MOST_MINUTES`].
+/// last daemon, and of those before it that ended without saying so. It is empty if no line of the
+/// log has a time, and none if it has more than [`MOST_MINUTES`].
 ///
-/// The offset is the minutes by which the plan's clock is ahead of UTC. A line that isn't known is
-/// ignored. Whether the tables have the lines and jobs isn't looked at.
+/// The plan's clock is `offset` minutes ahead of UTC. A line that isn't known is ignored. Whether
+/// the tables have the lines and jobs isn't looked at.
 pub fn retrace(alloc: Global, offset: i16, log: &[u8]) -> Result<Option<Vec<u8>>, AllocError> {
     let mut trace = Trace::new(alloc);
     let mut rest = log;
@@ -41,5 +41,10 @@ pub fn retrace(alloc: Global, offset: i16, log: &[u8]) -> Result<Option<Vec<u8>>
         return Ok(None);
     }
     let events = in_order(trace.events)?;
-    Ok(Some(written(alloc, trace.daemons, opening, events.as_slice())?))
+    Ok(Some(written(
+        alloc,
+        (trace.first, trace.daemons),
+        opening,
+        events.as_slice(),
+    )?))
 }

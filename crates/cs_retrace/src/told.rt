@@ -45,22 +45,14 @@ fn verb_of(word: &[u8]) -> Option<Verb> {
     }
 }
 
-/// The minute at the front, since 1970-01-01 00:00, and what follows it.
+/// Since 1970-01-01 00:00, with what follows it.
 fn minute(text: &[u8]) -> Option<(u64, &[u8])> {
     let (front, rest) = text.split_at_checked(16)?;
     Some((read_minute(front).ok()?.number(), rest))
 }
 
-/// Returns what a line such as `started line 1 due 2024-09-13 23:30` or
-/// `ended job backup at 2024-09-13 23:30 status 0` reports of a run. What follows isn't looked at.
-pub fn told(text: &[u8]) -> Option<RunTold<'_>> {
-    let (word, rest) = split(b' ', text)?;
-    let verb = verb_of(word)?;
-    let rest = match verb {
-        Verb::NotStarted => behind(b"started ", rest)?,
-        _ => rest,
-    };
-    let (kind, rest) = split(b' ', rest)?;
+fn run_told(verb: Verb, text: &[u8]) -> Option<RunTold<'_>> {
+    let (kind, rest) = split(b' ', text)?;
     let (name, rest) = split(b' ', rest)?;
     let (line, rest) = match kind {
         _ if is_word(kind, b"line") => (Some(number(name)?), behind(b"due ", rest)?),
@@ -74,6 +66,40 @@ pub fn told(text: &[u8]) -> Option<RunTold<'_>> {
         name,
         at,
     })
+}
+
+/// Returns what a line such as `started line 1 due 2024-09-13 23:30` or
+/// `ended job backup at 2024-09-13 23:30 status 0` reports of a run. What follows isn't looked at.
+pub fn told(text: &[u8]) -> Option<RunTold<'_>> {
+    let (word, rest) = split(b' ', text)?;
+    let verb = verb_of(word)?;
+    let rest = match verb {
+        Verb::NotStarted => behind(b"started ", rest)?,
+        _ => rest,
+    };
+    run_told(verb, rest)
+}
+
+#[derive(Clone, Copy)]
+pub(crate) enum Fate {
+    /// It has ended before the daemon began.
+    CutOff,
+    /// The daemon waits for it.
+    StillRunning,
+    /// It has ended meanwhile.
+    NoLonger,
+}
+
+/// In a line such as `cut off line 1 due 2024-09-13 23:30`.
+pub(crate) fn fate_in(text: &[u8]) -> Option<(Fate, RunTold<'_>)> {
+    let (what, rest) = if let Some(rest) = behind(b"cut off ", text) {
+        (Fate::CutOff, rest)
+    } else if let Some(rest) = behind(b"still running ", text) {
+        (Fate::StillRunning, rest)
+    } else {
+        (Fate::NoLonger, behind(b"no longer running ", text)?)
+    };
+    Some((what, run_told(Verb::Ended, rest)?))
 }
 
 /// The byte that `\xNN` at the front stands for, and what follows it.
@@ -111,15 +137,22 @@ pub(crate) fn outage(text: &[u8]) -> Option<(u64, u64)> {
     Some((from, to))
 }
 
+/// Of a plan that follows another.
+pub(crate) fn first_minute(text: &[u8]) -> Option<u64> {
+    let (at, _rest) = minute(behind(b"begins in ", text)?)?;
+    Some(at)
+}
+
 /// Whether a daemon begins.
 pub fn begins(text: &[u8]) -> bool {
     behind(b"running ", text).is_some()
 }
 
-/// Whether a daemon starts nothing more: it is asked to stop, it has accepted other files, or it
-/// ends.
+/// Whether a daemon starts nothing more: it is asked to stop, its minutes are over, it has accepted
+/// other files, or it ends.
 pub(crate) fn is_end(text: &[u8]) -> bool {
     is_word(text, b"asked to stop")
+        || is_word(text, b"the minutes of --minutes are over")
         || is_word(text, b"reload accepted, the runs under way end first")
         || is_word(text, b"stopped")
         || behind(b"ended, for ", text).is_some()

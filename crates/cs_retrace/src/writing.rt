@@ -14,11 +14,17 @@ fn push_minutes(text: &mut Vec<u8>, now: u64, at: u64) -> Result<(), AllocError>
 }
 
 /// The start: a daemon that began there comes up then.
-fn opening_text(alloc: Global, daemons: u64, opening: (u64, bool)) -> Result<Vec<u8>, AllocError> {
-    let origin = match daemons {
+fn opening_text(
+    alloc: Global,
+    daemons: (u64, u64),
+    opening: (u64, bool),
+) -> Result<Vec<u8>, AllocError> {
+    let (first, last) = daemons;
+    let origin = match first {
         0 => format!(in alloc; "# the log doesn't tell where its daemon began\n")?,
+        _ if first < last => format!(in alloc; "# daemons {first} to {last} of the log\n")?,
         1 => format!(in alloc; "")?,
-        _ => format!(in alloc; "# daemon {daemons} of the log, the last\n")?,
+        _ => format!(in alloc; "# daemon {last} of the log, the last\n")?,
     };
     let (at, has_begun) = opening;
     let mut text = origin.into_bytes();
@@ -34,11 +40,10 @@ fn opening_text(alloc: Global, daemons: u64, opening: (u64, bool)) -> Result<Vec
     Ok(text)
 }
 
-/// The script of a start and of events in their order, with the minutes between them while the
-/// daemon is up.
+/// `daemons` are the numbers of the first and the last. Minutes are written while one is up.
 pub(crate) fn written(
     alloc: Global,
-    daemons: u64,
+    daemons: (u64, u64),
     opening: (u64, bool),
     events: &[Entry],
 ) -> Result<Vec<u8>, AllocError> {
@@ -47,7 +52,7 @@ pub(crate) fn written(
     let mut is_up = true;
     for event in events {
         match event.turn {
-            Turn::Comes => now = event.at,
+            Turn::Comes | Turn::Returns => now = event.at,
             _ if is_up => {
                 push_minutes(&mut text, now, event.at)?;
                 now = now.max(event.at);
@@ -56,8 +61,8 @@ pub(crate) fn written(
         }
         text.extend_from_slice(event.text.as_slice())?;
         is_up = match event.turn {
-            Turn::Comes => true,
-            Turn::Goes => false,
+            Turn::Comes | Turn::Returns => true,
+            Turn::Goes | Turn::Crashes => false,
             _ => is_up,
         };
     }

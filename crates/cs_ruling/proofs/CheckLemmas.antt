@@ -14,7 +14,9 @@ use Rattle.cs_check.specs.Case.{fault_of}
 use Rattle.cs_check.specs.Checked.{certificate_in, plan_in}
 use Rattle.cs_check.specs.declared.checked.Checked.{Checked}
 use Rattle.cs_args.specs.Asked.{AskedCheck, AskedRun}
-use Rattle.cs_ruling.specs.Answer.{AnswersRun, IfEnds, IsRuled}
+use Rattle.cs_owner.specs.declared.owners.Unowned.{Unowned}
+use Rattle.cs_owner.specs.declared.owners.Unowned.TheVariants.{NoMemory, NoPlace, Unfit}
+use Rattle.cs_ruling.specs.Answer.{AnswersRun, IfEnds, IsRuled, Refuses}
 use Rattle.cs_ruling.specs.Check.{AreDigestsOf, FindsClaimed, IsDigestAt, IsDigestOf, IsVerdict, IsVerdictOn, answer_of, said}
 use Rattle.cs_ruling.specs.Safe.{IsAccepted, IsChecked, IsReplyOn, IsSafe}
 use Rattle.cs_ruling.specs.declared.answer.Answer.{Answer}
@@ -141,9 +143,14 @@ verdict_done x r verdict = by_fault (fault_of x.planned.plan (content x.certific
     by_fault None (more, is) = λ six. let zero : r.status ≡ 0 = ap (λ (e : Ending). e.status) is in absurd (cc)
     by_fault (Some fault) (more, is) = λ six. let one : r.status ≡ 1 = ap (λ (e : Ending). e.status) is in absurd (cc)
 
+refused_status : (fault : Unowned) (e : Ending) → Refuses fault e → e.status ≡ 3
+refused_status (NoPlace number) e is = ap (λ (r : Ending). r.status) is
+refused_status (Unfit number) e is = ap (λ (r : Ending). r.status) is
+refused_status NoMemory e is = absurd is
+
 pub ruled_done : (a : AskedRun) (x : Claimed) (answer : Answer) → IsRuled a x answer → IfEnds (λ e. e.status ≢ 6) answer
 ruled_done a x (Ends e) (inl (verdict, one)) = λ six. absurd (cc)
-ruled_done a x (Ends e) (inr others) = λ six. let three : e.status ≡ 3 = ap (λ (r : Ending). r.status) others.told in absurd (cc)
+ruled_done a x (Ends e) (inr others) = λ six. let three : e.status ≡ 3 = refused_status others.fault e others.told in absurd (cc)
 ruled_done a x (Runs order) is = tt
 ruled_done a x (Stops words) is = absurd is
 ruled_done a x (Reloads folder) is = absurd is

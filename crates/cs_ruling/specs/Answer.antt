@@ -1,7 +1,9 @@
 -- What a call comes to: an answer that ends it, an order to run tables, or words to stop a daemon,
 -- to have it read its files again, or to show its state.
-use Rattle.std.specs.Prelude.{◌≡◌, ◌⊎◌, ℕ, Bool, true, false, List, [], Option, Ok, Err, codes, ⊤}
-use Rattle.cs_place.specs.Mark.{is_gathered}
+use Rattle.std.specs.Prelude.{◌≡◌, ◌⊎◌, ◌++◌, ℕ, List, [], Option, Ok, Err, codes, decimal, ⊤}
+use Rattle.cs_owner.specs.Owners.{AreOwnersOf, IsUnowned}
+use Rattle.cs_owner.specs.declared.owners.Unowned.{Unowned}
+use Rattle.cs_owner.specs.declared.owners.Unowned.TheVariants.{NoMemory, NoPlace, Unfit}
 use Rattle.cs_report.specs.Warning.{plan_notes}
 use Rattle.cs_check.specs.declared.checked.Checked.{Checked}
 use Rattle.cs_check.specs.Checked.{plan_in}
@@ -33,34 +35,40 @@ IfEnds P (Stops words) = ⊤
 IfEnds P (Reloads stamps) = ⊤
 IfEnds P (Tells words) = ⊤
 
--- the crontab of what was checked was gathered
-abbrev pub is_of_gathered : Checked → Bool
-is_of_gathered checked = is_gathered (plan_in checked).crontab.settings
-
 -- what is to be run is the plan and the certificate that were claimed, which the checker accepts,
--- as it was asked, with the digests of the files; `check` would answer `safe` and the same notes
+-- as it was asked, with the digests of the files, and the owners of the commands of a gathered
+-- crontab; `check` would answer `safe` and the same notes
 pub record IsOrder (a : AskedRun) (x : Claimed) (order : Order) : Type 0 where
   pub accepted : IsAccepted x order.checked
-  pub own : is_of_gathered order.checked ≡ false
+  pub owners : AreOwnersOf x.planned.table x.planned.places (plan_in order.checked).crontab
+      order.owners
   pub words : asked_run order.words ≡ a
   pub digests : order.digests ≡ x.digests
   pub notes : order.warnings ≡ plan_notes (plan_in order.checked)
 
--- the fault of a crontab that was gathered: `run` starts each command as its own user
-abbrev pub gathered_fault : List ℕ
-gathered_fault = codes "crontab: GatheredTable: run can't start commands as other users"
+abbrev pub bad_crontab : List ℕ → Ending
+bad_crontab fault = record { status = 3; out = []; err = complaint fault }
 
--- `check` would answer `safe`, but the crontab was gathered, which is reported
-pub record IsOfOthers (x : Claimed) (ending : Ending) : Type 0 where
+-- where a command's user isn't known, or a setting of its table can't be read
+abbrev pub Refuses : Unowned → Ending → Type 0
+Refuses (NoPlace number) ending = ending ≡ bad_crontab
+    (codes "crontab: NoPlace: no comment names the user of line " ++ decimal number)
+Refuses (Unfit number) ending = ending ≡ bad_crontab
+    (codes "crontab: UnfitSetting: the comment has no whole setting, on line " ++ decimal number)
+Refuses NoMemory ending = ⊥
+
+-- `check` would answer `safe`, but a command of the crontab has no owner, which is reported
+pub record IsOfNobody (x : Claimed) (ending : Ending) : Type 0 where
   pub checked : Checked
   pub accepted : IsAccepted x checked
-  pub gathered : is_of_gathered checked ≡ true
-  pub told : ending ≡ record { status = 3; out = []; err = complaint gathered_fault }
+  pub fault : Unowned
+  pub unowned : IsUnowned x.planned.table x.planned.places (plan_in checked).crontab fault
+  pub told : Refuses fault ending
 
 -- what comes of a plan and the certificate that is claimed for it: what `check` answers where that
--- isn't `safe`, or that the crontab was gathered, else an order
+-- isn't `safe`, or that a command has no owner, else an order
 abbrev pub IsRuled : AskedRun → Claimed → Answer → Type 0
-IsRuled a x (Ends ending) = (IsVerdictOn x ending × (ending.status ≡ 1)) ⊎ IsOfOthers x ending
+IsRuled a x (Ends ending) = (IsVerdictOn x ending × (ending.status ≡ 1)) ⊎ IsOfNobody x ending
 IsRuled a x (Runs order) = IsOrder a x order
 IsRuled a x (Stops words) = ⊥
 IsRuled a x (Reloads stamps) = ⊥

@@ -2,10 +2,11 @@ ghost use Rattle.std.specs.Prelude.{◌≡◌, ◌++◌, [], IfOk};
 ghost use Rattle.cs_files.specs.Response.{complaint};
 
 use crate::check::Digests;
-use cs_args::{RunWords, StatusWords, StopWords};
+use cs_args::{ReloadWords, RunWords, StatusWords, StopWords};
 use cs_check::Checked;
-use cs_civil::Bytes;
+use cs_civil::{Bytes, Sequence};
 use cs_files::{Response, Status};
+use cs_owner::Owner;
 use std::alloc::{AllocError, Global};
 
 /// What a call comes to.
@@ -17,8 +18,8 @@ pub enum Answer<'a> {
     Runs(Order<'a>),
     /// A daemon is to be stopped.
     Stops(StopWords<'a>),
-    /// A daemon is to read its files again: the path of the folder of stamps that it uses.
-    Reloads(&'a str),
+    /// A daemon is to read its files again.
+    Reloads(ReloadWords<'a>),
     /// The state of a daemon is to be shown.
     Tells(StatusWords<'a>),
 }
@@ -28,6 +29,8 @@ pub enum Answer<'a> {
 pub struct Order<'a> {
     /// The plan, with the certificate that the checker has accepted.
     pub checked: Checked,
+    /// The owners of the commands of the crontab, in their order; none unless it was gathered.
+    pub owners: Sequence<Owner>,
     /// The notes on the plan, still to be written.
     pub warnings: Bytes,
     /// What `run` is asked.

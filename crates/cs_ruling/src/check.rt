@@ -1,6 +1,7 @@
 //! The subcommand `check`.
-ghost use Rattle.std.specs.Prelude.{◌≡◌, ◌++◌, ℕ, IfErr, IfOk, List, OnOk, Some};
-ghost use Rattle.cs_check.specs.Checked.{certificate_in, plan_in};
+ghost use denote.Param.Send.{IsSync};
+ghost use Rattle.std.specs.Prelude.{◌≡◌, ◌++◌, ℕ, IfErr, IfOk, List, None, OnOk, Some, ⊤};
+ghost use Rattle.cs_check.specs.Checked.{Tells as TellsFault, certificate_in, plan_in};
 ghost use Rattle.cs_claims.specs.Certificate.{content};
 ghost use Rattle.cs_check.specs.Case.{fault_of};
 ghost use Rattle.cs_theorem.specs.Told.{told};
@@ -24,9 +25,10 @@ use crate::overload::overload_notes;
 use crate::places::{fault_takers, push_fault_places, push_stale_note};
 use cs_args::CheckWords;
 use cs_cert::read_certificate;
-use cs_check::{CheckError, Checked, check_parallel};
+use cs_check::{CheckError, Checked, check, check_parallel};
 use cs_civil::Bytes;
 use cs_claims::{Certificate, JobReach, MAX_CERTIFICATE};
+use cs_classes::{OneThread, SeveralThreads};
 use cs_files::{Fault, Planned, Response, bytes_at, find_plan};
 use cs_io::{Inputs, Output};
 use cs_place::Place;
@@ -115,16 +117,61 @@ fn refusal(
     Ok(Response::refused(text, notes))
 }
 
-/// What the checker rules, with as many threads as the machine has processors: the plan and the
-/// certificate that it accepts, or the answer to the first rule that isn't met.
+/// Checks certificates, in one thread or in several.
+pub(crate) trait Checker {
+    // Holds where it may work.
+    ghost can_check: { Self → Type 0 };
+
+    fn check(
+        &self,
+        alloc: Global,
+        plan: &Plan,
+        certificate: Certificate,
+    ) -> Result<Checked, CheckError>
+        requires { can_check self.now }
+        ensures value { IfOk result (λ checked.
+            (plan_in checked ≡ plan.now) × (certificate_in checked ≡ content certificate)) }
+        ensures ok { IfOk result (λ checked. fault_of plan.now (content certificate) ≡ None) }
+        ensures fault { IfErr result (TellsFault (fault_of plan.now (content certificate))) };
+}
+
+impl Checker for OneThread {
+    ghost can_check = { λ _. ⊤ };
+
+    fn check(
+        &self,
+        alloc: Global,
+        plan: &Plan,
+        certificate: Certificate,
+    ) -> Result<Checked, CheckError> {
+        check(alloc, plan, certificate)
+    }
+}
+
+impl<R: Threads + Sync> Checker for SeveralThreads<'_, R> {
+    ghost can_check = { λ _. IsSync R.row };
+
+    fn check(
+        &self,
+        alloc: Global,
+        plan: &Plan,
+        certificate: Certificate,
+    ) -> Result<Checked, CheckError> {
+        check_parallel(self.0, alloc, plan, certificate)
+    }
+}
+
+/// What the checker rules: the plan and the certificate that it accepts, or the answer to the first
+/// rule that isn't met.
 #[tactic(auto, unfolding(crate::specs::Check::verdict_text))]
-pub(crate) fn ruling<R: Threads + Sync>(
-    rt: &R,
+pub(crate) fn ruling<C: Checker>(
+    checker: &C,
     alloc: Global,
     plan: Plan,
     places: &[Place],
     certificate: Certificate,
 ) -> Result<Result<Checked, Response>, AllocError>
+    requires { C.can_check checker.now }
     ensures answer { IfOk result (λ found. IsVerdict plan places.now
         (fault_of plan (content certificate)) (answer_of found)) }
     ensures same { IfOk result (λ found. IfOk found
@@ -132,16 +179,26 @@ pub(crate) fn ruling<R: Threads + Sync>(
     ensures safe { IfOk result (λ found. IfOk found IsSafe) }
     ensures refused { IfOk result (λ found. IfErr found (λ answer. answer.status ≡ 1)) }
 {
-    let reach = Vec::from_slice(alloc, certificate.reach())?;
-    match check_parallel(rt, alloc, &plan, certificate) {
+    let Ok(reach) = Vec::from_slice(alloc, certificate.reach()) else {
+        drop(plan);
+        drop(certificate);
+        return Err(AllocError);
+    };
+    match checker.check(alloc, &plan, certificate) {
         Ok(checked) => {
+            drop(plan);
             checked.is_safe();
             Ok(Ok(checked))
         }
         Err(CheckError::Fault(fault)) => {
-            Ok(Err(refusal(alloc, &plan, places, reach.as_slice(), &fault)?))
+            let answer = refusal(alloc, &plan, places, reach.as_slice(), &fault);
+            drop(plan);
+            Ok(Err(answer?))
         }
-        Err(CheckError::OutOfMemory) => Err(AllocError),
+        Err(CheckError::OutOfMemory) => {
+            drop(plan);
+            Err(AllocError)
+        }
     }
 }
 
@@ -213,9 +270,19 @@ pub fn answer_check<R: Threads + Sync>(
         ..
     } = claimed;
     let Planned { plan, places, .. } = planned;
-    let ruled = ruling(rt, alloc, plan, places.as_slice(), certificate)?;
+    let ruled = ruling(
+        &SeveralThreads(rt),
+        alloc,
+        plan,
+        places.as_slice(),
+        certificate,
+    )?;
     match ruled {
-        Ok(checked) => acceptance(alloc, checked.plan()),
+        Ok(checked) => {
+            let answer = acceptance(alloc, checked.plan());
+            drop(checked);
+            answer
+        }
         Err(answer) => Ok(answer),
     }
 }

@@ -11,5 +11,5 @@ mod places;
 pub use answer::{Answer, Order};
 pub use check::{Claimed, Digests, answer_check, find_claimed};
 pub use loads::what_a_minute_needs;
-pub use order::{answer_run, refuse_gathered};
+pub use order::{answer_run, answer_run_alone};
 pub use places::{fault_takers, push_fault_places};

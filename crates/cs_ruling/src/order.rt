@@ -1,30 +1,101 @@
 //! The subcommand `run`, up to where something is run.
-ghost use Rattle.std.specs.Prelude.{◌≡◌, [], IfOk};
+ghost use Rattle.std.specs.Prelude.{◌≡◌, ◌++◌, IfOk, decimal};
 ghost use Rattle.cs_args.specs.Asked.{asked_run};
-ghost use Rattle.cs_files.specs.Response.{complaint};
-ghost use Rattle.cs_ruling.specs.Answer.{IsRuled, gathered_fault};
+ghost use Rattle.cs_ruling.specs.Answer.{IsRuled, Refuses, bad_crontab};
 
 use crate::answer::{Answer, Order};
-use crate::check::{Claimed, ruling};
+use crate::check::{Checker, Claimed, ruling};
 use cs_args::RunWords;
+use cs_civil::push_number;
+use cs_classes::{OneThread, SeveralThreads};
 use cs_files::{Planned, Response, Status};
-use cs_place::is_gathered;
+use cs_owner::{Unowned, read_owners};
 use cs_report::plan_notes;
 use std::alloc::{AllocError, Global};
 use std::thread::Threads;
 
-/// The answer where the crontab was gathered.
-pub fn refuse_gathered(alloc: Global) -> Result<Response, AllocError>
-    ensures { IfOk result
-        (λ r. r ≡ record { status = 3; out = []; err = complaint gathered_fault }) }
+fn bad_crontab(alloc: Global, front: &str, line: u32) -> Result<Response, AllocError>
+    ensures { IfOk result (λ r. r ≡ bad_crontab (front.now ++ decimal line)) }
 {
-    let fault = b"crontab: GatheredTable: run can't start commands as other users".as_slice();
-    Response::fault(alloc, Status::BadInput, b"".as_slice(), fault)
+    let mut text = Vec::from_slice(alloc, front.as_bytes())?;
+    push_number(alloc, &mut text, u128::from(line))?;
+    Response::fault(alloc, Status::BadInput, b"".as_slice(), text.as_slice())
+}
+
+/// The answer where a command of a gathered crontab has no owner.
+fn refuse_unowned(alloc: Global, fault: Unowned) -> Result<Response, AllocError>
+    ensures { IfOk result (Refuses fault) }
+{
+    match fault {
+        Unowned::NoPlace(line) => bad_crontab(
+            alloc,
+            "crontab: NoPlace: no comment names the user of line ",
+            line,
+        ),
+        Unowned::Unfit(line) => bad_crontab(
+            alloc,
+            "crontab: UnfitSetting: the comment has no whole setting, on line ",
+            line,
+        ),
+        Unowned::NoMemory => Err(AllocError),
+    }
+}
+
+fn answer_by<'a, C: Checker>(
+    checker: &C,
+    alloc: Global,
+    words: RunWords<'a>,
+    claimed: Claimed,
+) -> Result<Answer<'a>, AllocError>
+    requires { C.can_check checker.now }
+    ensures { IfOk result (IsRuled (asked_run words.entry) claimed) }
+{
+    let Claimed {
+        planned,
+        certificate,
+        digests,
+    } = claimed;
+    let Planned {
+        plan,
+        places,
+        table,
+        ..
+    } = planned;
+    let listed = places.as_slice();
+    let ruled = ruling(checker, alloc, plan, listed, certificate)?;
+    let checked = match ruled {
+        Ok(checked) => checked,
+        Err(answer) => return Ok(Answer::Ends(answer)),
+    };
+    let text = table.as_slice();
+    let crontab = checked.plan().crontab();
+    let owners = match read_owners(alloc, text, crontab, listed) {
+        Ok(owners) => owners,
+        Err(fault) => {
+            drop(checked);
+            return Ok(Answer::Ends(refuse_unowned(alloc, fault)?));
+        }
+    };
+    let warnings = match plan_notes(alloc, checked.plan()) {
+        Ok(warnings) => warnings,
+        Err(AllocError) => {
+            drop(checked);
+            return Err(AllocError);
+        }
+    };
+    Ok(Answer::Runs(Order {
+        checked,
+        owners,
+        warnings,
+        words,
+        digests,
+    }))
 }
 
 /// Answers `run TABLE DECLS CERT STAMPS [--anacrontab FILE] [--minutes N] [--log FILE] [--output
-/// FOLDER] [--keep N] [--home] [--on-overrun COMMAND] [--on-failure COMMAND]`: like `check` if that
-/// doesn't answer `safe`, with a fault if the crontab was gathered, else with what to run.
+/// FOLDER] [--keep N] [--home] [--enforce] [--on-overrun COMMAND] [--on-failure COMMAND]
+/// [--on-limit COMMAND]`: like `check` if that doesn't answer `safe`, with a fault if a command of
+/// a gathered crontab has no owner, else with what to run.
 pub fn answer_run<'a, R: Threads + Sync>(
     rt: &R,
     alloc: Global,
@@ -33,25 +104,16 @@ pub fn answer_run<'a, R: Threads + Sync>(
 ) -> Result<Answer<'a>, AllocError>
     ensures { IfOk result (IsRuled (asked_run words.entry) claimed) }
 {
-    let Claimed {
-        planned,
-        certificate,
-        digests,
-    } = claimed;
-    let Planned { plan, places, .. } = planned;
-    let ruled = ruling(rt, alloc, plan, places.as_slice(), certificate)?;
-    let checked = match ruled {
-        Ok(checked) => checked,
-        Err(answer) => return Ok(Answer::Ends(answer)),
-    };
-    if is_gathered(checked.plan().crontab().settings()) {
-        return Ok(Answer::Ends(refuse_gathered(alloc)?));
-    }
-    let warnings = plan_notes(alloc, checked.plan())?;
-    Ok(Answer::Runs(Order {
-        checked,
-        warnings,
-        words,
-        digests,
-    }))
+    answer_by(&SeveralThreads(rt), alloc, words, claimed)
+}
+
+/// The same, checked by one thread.
+pub fn answer_run_alone<'a>(
+    alloc: Global,
+    words: RunWords<'a>,
+    claimed: Claimed,
+) -> Result<Answer<'a>, AllocError>
+    ensures { IfOk result (IsRuled (asked_run words.entry) claimed) }
+{
+    answer_by(&OneThread, alloc, words, claimed)
 }

@@ -5,6 +5,7 @@ use Rattle.std.proofs.lemmas.List.Sums.{fold-append, sum_by-cons}
 use Rattle.cs_args.specs.Asked.{AskedRun}
 use Rattle.cs_check.specs.Checked.{IsHeadline, plan_in}
 use Rattle.cs_check.specs.declared.checked.Checked.{Checked}
+use Rattle.cs_owner.specs.declared.owners.Owner.{Owner}
 use Rattle.cs_ruling.specs.Answer.{IsOrder}
 use Rattle.cs_ruling.specs.declared.check.Claimed.{Claimed}
 use Rattle.cs_ruling.specs.declared.answer.Order.{Order}
@@ -37,8 +38,8 @@ counted_by checked end [] is many whole = absurd (omega (arith, many))
 counted_by checked end (clock ∷ workers) is many whole =
     record { clock = clock; workers = workers; shares = is; each = omega (arith, many); whole = sym (sum_by-cons (λ n. n) clock workers) ∙ whole }
 
-counted : (checked : Checked) (before after : Tellings) (end : DaemonEnd) → HasRun checked before after end → AreCounted checked end
-counted checked before after end run =
+counted : (checked : Checked) (owners : List Owner) (before after : Tellings) (end : DaemonEnd) → HasRun checked owners before after end → AreCounted checked end
+counted checked owners before after end run =
     counted_by checked end end.shares.items refl run.threads (run.shares ∙ in_keep end.keep end.total run.none run.total)
 
 first_share : (xs : List ℕ) → slice_index_or xs 0 0 ≤ sum xs
@@ -92,7 +93,7 @@ next_journal a order old new status ordered s = kept_by order.checked s.1.end.ke
 
 module _ (order : Order) (old new : Sink) (status : ℕ) (s : IsServed order old new status) where
   pub served_events : AreCounted order.checked s.1.end
-  served_events = counted order.checked no_tellings s.0 s.1.end s.1.run
+  served_events = counted order.checked order.owners no_tellings s.0 s.1.end s.1.run
 
   pub served_faults : s.1.end.stamp_faults ≤ s.0.stamp_failures
   served_faults = let f = s.1.run.faults in omega (arith, f)

@@ -1,12 +1,28 @@
 -- Orders that come one after another.
 use Rattle.std.proofs.Common.{◌≡◌, ◌∙◌, ℕ, List, [], ap, inl, inr, refl, subst}
+use Rattle.cs_device.specs.Telling.{Telling, nothing_told}
 use Rattle.cs_args.specs.Asked.{asked_run, AskedRun}
 use Rattle.cs_ruling.specs.declared.answer.Order.{Order}
 use Rattle.cs_daemon.specs.declared.end.Cause.{Cause}
+use Rattle.cs_daemon.specs.declared.end.Cause.TheVariants.{Stopped}
 use Rattle.cs_serve.specs.Anew.{IsOrderOf}
-use Rattle.cs_files.specs.Ending.{Sink}
-use Rattle.cs_serve.specs.Serve.{ComesBehind, IsFollowed, IsNextOf, IsServedBehind, Refuses, Serves, ServesOne, cause_status}
+use Rattle.cs_files.specs.Ending.{Sink, Tries}
+use Rattle.cs_serve.specs.Serve.{ComesBehind, IsFollowed, IsNextOf, IsRun, IsServedBehind, IsServedBy, Refuses, Serves, ServesOne, Tellings, cause_status, taken_away}
 use Rattle.cs_serve.specs.declared.obstacle.Obstacle.{Obstacle}
+
+abbrev pub tellings : Telling → ℕ → Tellings
+tellings t failures = record { last = t.last; top = t.top; risen = t.risen; clock_failures = t.failures; stamp_failures = failures }
+
+pub behind : (order : Order) (old between new : Sink) (t : Telling) (failures : ℕ) (after : Tellings) (status : ℕ)
+    → Tries order.warnings old between → t ≡ nothing_told → failures ≡ 0 → IsServedBy order.checked order.owners (tellings t failures) after between new status → IsServedBehind order old new status
+behind order old between new t failures after status warned fresh none served =
+    let by_clock : IsServedBy order.checked order.owners (tellings nothing_told failures) after between new status = subst (λ (t : Telling). IsServedBy order.checked order.owners (tellings t failures) after between new status) fresh served in
+    (between, warned, (after, subst (λ (n : ℕ). IsServedBy order.checked order.owners (tellings nothing_told n) after between new status) none by_clock))
+
+pub lost : (order : Order) (old stopped new : Sink) (cause : Cause) (status : ℕ)
+    → IsServedBehind order old stopped status → status ≡ cause_status cause → cause ≡ Stopped → Tries taken_away stopped new → IsRun order old new 6
+lost order old stopped new cause status served by is told =
+    inr (refl, (stopped, subst (λ (n : ℕ). IsServedBehind order old stopped n) (by ∙ ap cause_status is) served, told))
 
 -- what is served when its daemon stops is followed by what its words order
 pub followed : (order : Order) (old new : Sink) (cause : Cause) (status : ℕ) (a : AskedRun) (next : Order)

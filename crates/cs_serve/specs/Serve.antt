@@ -6,6 +6,7 @@ use Rattle.cs_check.specs.Checked.{plan_in}
 use Rattle.cs_check.specs.declared.checked.Checked.{Checked}
 use Rattle.cs_civil.specs.Calendar.{last_minute}
 use Rattle.cs_daemon.specs.Causes.{IsBack}
+use Rattle.cs_daemon.specs.Rest.{IsLeftIn}
 use Rattle.cs_daemon.specs.declared.end.Cause.{Cause}
 use Rattle.cs_daemon.specs.declared.end.Cause.TheVariants.{ClockBack, ClockFailed, HistoryFull}
 use Rattle.cs_daemon.specs.declared.end.Cause.TheVariants.{LastMinute, NoMemory, Stopped}
@@ -15,30 +16,37 @@ use Rattle.cs_device.specs.declared.clock.Tick.TheVariants.{At, Stop}
 use Rattle.cs_keep.specs.Closed.{checked_in, keeping_in}
 use Rattle.cs_keep.specs.Keeping.{IsKept}
 use Rattle.cs_files.specs.Response.{Ending, complaint}
+use Rattle.cs_owner.specs.declared.owners.Owner.{Owner}
 use Rattle.cs_ruling.specs.declared.answer.Order.{Order}
 use Rattle.cs_args.specs.Asked.{asked_run, AskedRun}
 use Rattle.cs_serve.specs.Anew.{IsOrderOf}
 use Rattle.cs_files.specs.Ending.{Ends, Sink, Tries}
 use Rattle.cs_serve.specs.declared.obstacle.Obstacle.{Obstacle}
-use Rattle.cs_serve.specs.declared.obstacle.Obstacle.TheVariants.{InUse, NoFolder, NoHome, NoLog, NoOutput, RequestStays, Unlocked}
+use Rattle.cs_serve.specs.declared.obstacle.Obstacle.TheVariants.{Exposed, InUse, NoFolder, NoHome, NoLog, NoOutput, NotRoot, RequestStays, RunsUnread, Unlocked}
 
 -- why an order isn't served, before a path
 abbrev pub in_front : Obstacle → List ℕ
 in_front NoFolder = codes "no folder "
 in_front InUse = codes "another daemon uses "
+in_front Exposed = codes "other users can write to "
 in_front Unlocked = codes "can't lock "
 in_front RequestStays = codes "can't remove old requests from "
+in_front RunsUnread = codes "can't read the list of runs in "
 in_front NoHome = codes "no home folder, the user of this process isn't in "
+in_front NotRoot = codes "only root can run the gathered table "
 in_front NoLog = codes "can't write "
 in_front NoOutput = codes "no folder "
 
--- the path: that of the log, of the folder of output, of the users, or of the folder of stamps
+-- the path: that of the table, the log, the folder of output, the users, or the folder of stamps
 abbrev pub named : Obstacle → Order → List ℕ
 named NoFolder order = order.words.stamps.now
 named InUse order = order.words.stamps.now
+named Exposed order = order.words.stamps.now
 named Unlocked order = order.words.stamps.now
 named RequestStays order = order.words.stamps.now
+named RunsUnread order = order.words.stamps.now
 named NoHome order = codes "/etc/passwd"
+named NotRoot order = order.words.check.table.now
 named NoLog order = unwrap_or (option_map (λ path. path.now) order.words.log) []
 named NoOutput order = unwrap_or (option_map (λ path. path.now) order.words.output) []
 
@@ -63,19 +71,22 @@ pub record Tellings : Type 0 where
 abbrev pub no_tellings : Tellings
 no_tellings = record { last = None; top = 0; risen = 0; clock_failures = 0; stamp_failures = 0 }
 
--- The daemon was run over what was checked, and ended so. Each event is the clock's or a worker's.
+-- The daemon was run over what was checked, with these owners, and ended so. Each event is the
+-- clock's or a worker's.
 -- The keep, where one was opened, is that of what was checked, and its journal is a legal history.
 -- It stopped where its clock said so, with an event for each minute later than all before but the
 -- first; it ended for its clock where that went back or failed, and with the last minute where that
 -- came. Then there is a keep, as there is where the history is full. No failure is counted that the
 -- devices didn't have.
-pub record HasRun (checked : Checked) (before after : Tellings) (end : DaemonEnd) : Type 0 where
+pub record HasRun (checked : Checked) (owners : List Owner) (before after : Tellings)
+    (end : DaemonEnd) : Type 0 where
   pub threads : array_vec_len end.shares ≡ (plan_in checked).capacity + 1
   pub shares : sum end.shares.items ≡ end.total
   pub none : end.keep ≡ None → end.total ≡ 0
   pub same : IfSome end.keep (λ kept. checked_in kept ≡ checked)
   pub kept : IfSome end.keep (λ kept. IsKept (keeping_in kept))
   pub total : IfSome end.keep (λ kept. (keeping_in kept).total ≡ end.total)
+  pub owned : end.owners ≡ owners
   pub stopped : end.cause ≡ Stopped → after.last ≡ Some Stop
   pub rises : end.cause ≡ Stopped
       → after.risen ≤ before.risen + slice_index_or end.shares.items 0 0 + 1
@@ -84,6 +95,7 @@ pub record HasRun (checked : Checked) (before after : Tellings) (end : DaemonEnd
   pub last_keep : end.cause ≡ LastMinute → end.keep ≢ None
   pub full_keep : end.cause ≡ HistoryFull → end.keep ≢ None
   pub failed : end.cause ≡ ClockFailed → before.clock_failures < after.clock_failures
+  pub rest : IfSome end.rest (λ m. IfSome end.keep (λ kept. IsLeftIn (keeping_in kept) m))
   pub faults : end.stamp_faults + before.stamp_failures ≤ after.stamp_failures
 
 abbrev pub cause_status : Cause → ℕ
@@ -105,22 +117,37 @@ farewell NoMemory = codes "cronsafe: out of memory\n"
 
 -- the daemon is run with these devices until it ends, and why it ended is reported and is the
 -- status; of what it writes to standard output nothing is said
-pub record IsServedBy (checked : Checked) (before after : Tellings) (err-old err-new : Sink)
-    (status : ℕ) : Type 0 where
+pub record IsServedBy (checked : Checked) (owners : List Owner) (before after : Tellings)
+    (err-old err-new : Sink) (status : ℕ) : Type 0 where
   pub end : DaemonEnd
-  pub run : HasRun checked before after end
+  pub run : HasRun checked owners before after end
   pub told : Tries (farewell end.cause) err-old err-new
   pub by_cause : status ≡ cause_status end.cause
 
 -- so it is with new devices of this machine
 abbrev pub IsServed : Order → Sink → Sink → ℕ → Type 0
 IsServed order err-old err-new status =
-    (after : Tellings) × IsServedBy order.checked no_tellings after err-old err-new status
+    (after : Tellings)
+    × IsServedBy order.checked order.owners no_tellings after err-old err-new status
 
 -- the warnings are reported first
 abbrev pub IsServedBehind : Order → Sink → Sink → ℕ → Type 0
 IsServedBehind order err-old err-new status =
     (warned : Sink) × Tries order.warnings err-old warned × IsServed order warned err-new status
+
+abbrev pub taken_away : List ℕ
+taken_away = codes "cronsafe: the folder of stamps was taken away\n"
+
+-- it was served as if to end with status 0, and then reports that its folder was taken away
+abbrev pub LosesFolder : Order → Sink → Sink → ℕ → Type 0
+LosesFolder order err-old err-new status = (status ≡ 6)
+    × ((stopped : Sink) × IsServedBehind order err-old stopped 0
+    × Tries taken_away stopped err-new)
+
+-- it was run, to the end or until its folder was taken away
+abbrev pub IsRun : Order → Sink → Sink → ℕ → Type 0
+IsRun order err-old err-new status =
+    IsServedBehind order err-old err-new status ⊎ LosesFolder order err-old err-new status
 
 -- the warnings are reported, and then that memory ran out
 abbrev pub RunsOutBehind : Order → Sink → Sink → ℕ → Type 0
@@ -141,14 +168,14 @@ ServesOne order out-old out-new err-old err-new status =
     ((obstacle : Obstacle)
     × Ends (unserved obstacle order) out-old out-new err-old err-new status)
     ⊎ (((out-new ≡ out-old) × RunsOutBehind order err-old err-new status)
-    ⊎ IsServedBehind order err-old err-new status)
+    ⊎ IsRun order err-old err-new status)
 
 -- a daemon that has stopped is followed by what these words order
 abbrev pub IsNextOf : Cause → AskedRun → Order → Type 0
 IsNextOf cause a next = (cause ≡ Stopped) × IsOrderOf a next
 
--- an order was served until its daemon stopped, and is followed by what its words order when its
--- files are read again
+-- an order was served with status 0, and is followed by what its words order when its files are
+-- read again
 abbrev pub IsFollowed : Order → Sink → Sink → Order → Type 0
 IsFollowed order err-old err-new next =
     IsServedBehind order err-old err-new 0 × IsOrderOf (asked_run order.words) next

@@ -1,34 +1,31 @@
 //! Reading a daemon's files again.
-ghost use Rattle.std.specs.Prelude.{◌≡◌, ◌++◌, IfOk, false};
+ghost use Rattle.std.specs.Prelude.{◌≡◌, ◌++◌, IfErr, IfOk};
 ghost use Rattle.cs_args.specs.Asked.{asked_run};
-ghost use Rattle.cs_ruling.specs.Answer.{is_of_gathered};
+ghost use Rattle.cs_io.specs.Files.{IsFresh};
 ghost use Rattle.cs_files.specs.Response.{status_of};
-ghost use Rattle.cs_check.specs.Checked.{plan_in};
-ghost use Rattle.cs_report.specs.Warning.{plan_notes, warnings};
-ghost use Rattle.cs_serve.specs.Anew.{IsOrderOf, IsTaken, rejected_status, rejected_text};
+ghost use Rattle.cs_ruling.specs.declared.answer.Answer.TheVariants.{Runs};
+ghost use Rattle.cs_serve.specs.Anew.{Hinders, IsOfFiles, IsOrderOf, IsRejection, RunAnswers};
+ghost use Rattle.cs_serve.specs.Anew.{rejected_status, rejected_text, warned};
 
 use cs_args::RunWords;
-use cs_check::{CheckError, CheckFault, Checked, check};
 use cs_civil::Bytes;
 use cs_files::{Response, Status};
-use cs_io::{Machine, Printer};
-use cs_place::is_gathered;
-use cs_plan::Plan;
-use cs_report::{fault_text, plan_notes, warnings};
-use cs_ruling::{Claimed, Digests, Order, find_claimed, refuse_gathered};
+use cs_io::{Inputs, Printer};
+use cs_machine::{is_root, open_log};
+use cs_report::warnings;
+use cs_ruling::{Answer, Order, answer_run_alone, find_claimed};
 use std::alloc::{AllocError, Global};
-use std::fs::OpenOptions;
 use std::rt::Files;
 use std::{fs, io};
 
-/// A plan that the checker has accepted, its warnings, and the SHA-256 of its files.
+/// What `run` would order of a daemon's files.
 #[derive(Drop)]
-pub(crate) struct Accepted {
-    checked: Checked,
+pub(crate) struct Accepted<'a> {
+    order: Order<'a>,
     /// The warnings of the tables, and after them the notes on the plan.
     pub(crate) warnings: Bytes,
-    digests: Digests,
-    ghost own: { is_of_gathered checked ≡ false },
+    ghost read: { IsOfFiles order },
+    ghost told: { warnings ≡ warned order },
 }
 
 /// Why a daemon's files aren't accepted.
@@ -42,6 +39,7 @@ pub(crate) enum Rejection {
     NoFile,
     NoLog,
     NoOutput,
+    NotRoot,
     NoMemory,
 }
 
@@ -56,6 +54,7 @@ impl Rejection {
             Rejection::NoFile => Status::DeviceFailed,
             Rejection::NoLog => Status::DeviceFailed,
             Rejection::NoOutput => Status::DeviceFailed,
+            Rejection::NotRoot => Status::DeviceFailed,
             Rejection::NoMemory => Status::NoMemory,
         }
     }
@@ -86,6 +85,12 @@ impl Rejection {
                 b"cronsafe: no folder for the output of jobs\n".as_slice(),
                 b"".as_slice(),
             ),
+            Rejection::NotRoot => {
+                (
+                    b"cronsafe: only root can run a gathered table\n".as_slice(),
+                    b"".as_slice(),
+                )
+            }
             Rejection::NoMemory => (b"cronsafe: out of memory\n".as_slice(), b"".as_slice()),
         }
     }
@@ -103,11 +108,6 @@ fn has_no_files<R: Files>(rt: &R, paths: &[&str]) -> bool {
     false
 }
 
-pub(crate) fn open_log<R: Files>(rt: &R, path: &str) -> io::Result<R::File> {
-    OpenOptions::new().append(true).create(true).open(rt, path)
-}
-
-/// Whether the log can be opened, if it is a file.
 fn has_log<R: Files>(rt: &R, log: Option<&str>) -> bool {
     match log {
         None | Some("-") => true,
@@ -126,76 +126,62 @@ pub(crate) fn has_output<R: Files>(rt: &R, output: Option<&str>) -> bool {
     }
 }
 
-fn rejected_by(answer: Result<Response, AllocError>) -> Rejection {
-    match answer {
-        Ok(response) => Rejection::Answered(response),
-        Err(AllocError) => Rejection::NoMemory,
-    }
-}
-
-fn told_of(alloc: Global, plan: &Plan) -> Result<Bytes, AllocError>
-    ensures { IfOk result (λ text.
-        text ≡ warnings plan.now.crontab plan.now.anacrontab ++ plan_notes plan.now) }
+fn told_of(alloc: Global, order: &Order<'_>) -> Result<Bytes, AllocError>
+    ensures { IfOk result (λ text. text ≡ warned order.now) }
 {
+    let plan = order.checked.plan();
     let mut told = warnings(alloc, plan.crontab(), plan.anacrontab())?.into_vec();
-    told.extend_from_slice(plan_notes(alloc, plan)?.as_slice())?;
+    told.extend_from_slice(order.warnings.as_slice())?;
     Ok(Bytes::from_vec(told))
 }
 
-/// Refuses a crontab that was gathered.
-fn accept(alloc: Global, checked: Checked, digests: Digests) -> Result<Accepted, Rejection>
-    ensures { IfOk result (λ accepted. (accepted.checked ≡ checked)
-        × (accepted.warnings ≡ warnings (plan_in checked).crontab (plan_in checked).anacrontab
-        ++ plan_notes (plan_in checked))
-        × (accepted.digests ≡ digests)) }
+/// Accepts an order, unless its commands have owners and this process isn't root's.
+fn accept<'a, R: Files>(rt: &R, alloc: Global, order: Order<'a>) -> Result<Accepted<'a>, Rejection>
+    requires { IsOfFiles order }
+    ensures order { IfOk result (λ accepted. accepted.order ≡ order.entry) }
+    ensures hinders { IfErr result (Hinders order.entry) }
 {
-    if is_gathered(checked.plan().crontab().settings()) {
-        drop(checked);
-        return Err(rejected_by(refuse_gathered(alloc)));
+    if !order.owners.is_empty() && !is_root(rt) {
+        drop(order);
+        return Err(Rejection::NotRoot);
     }
-    match told_of(alloc, checked.plan()) {
-        Ok(warnings) => Ok(Accepted {
-            checked,
-            warnings,
-            digests,
-        }),
-        Err(AllocError) => {
-            drop(checked);
-            Err(Rejection::NoMemory)
-        }
-    }
-}
-
-fn refusal(alloc: Global, plan: &Plan, fault: &CheckFault) -> Result<Response, AllocError> {
-    let mut text = fault_text(alloc, plan, fault)?.into_vec();
-    text.extend_from_slice(b"\n")?;
-    Ok(Response::refused(text, Bytes::new(alloc)))
-}
-
-fn rule(alloc: Global, claimed: Claimed) -> Result<Accepted, Rejection>
-    ensures { IfOk result (λ accepted. IsTaken claimed
-        accepted.checked accepted.digests accepted.warnings) }
-{
-    let Claimed {
-        planned,
-        certificate,
-        digests,
-    } = claimed;
-    let ruled = match check(alloc, &planned.plan, certificate) {
-        Ok(checked) => accept(alloc, checked, digests),
-        Err(CheckError::Fault(fault)) => { Err(rejected_by(refusal(alloc, &planned.plan, &fault))) }
-        Err(CheckError::OutOfMemory) => Err(Rejection::NoMemory),
+    let Ok(warnings) = told_of(alloc, &order) else {
+        drop(order);
+        return Err(Rejection::NoMemory);
     };
-    drop(planned);
-    ruled
+    Ok(Accepted { order, warnings })
 }
 
-/// Reads the files of these words again, and checks them, with one thread.
-pub(crate) fn read_anew<R: Files + Input>(
+/// What `run` answers, checked by one thread. The warnings of the tables aren't written.
+fn answer_anew<'a, I: Inputs>(
+    alloc: Global,
+    inputs: &mut I,
+    words: RunWords<'a>,
+) -> Result<Answer<'a>, AllocError>
+    requires { IsFresh (I.whole inputs.old) (I.left inputs.old) }
+    ensures { IfOk result (RunAnswers (asked_run words.entry) (I.whole inputs.old)
+        (I.failed inputs.old) (I.failed inputs.new)) }
+{
+    let mut unheard = Printer::new(io::sink());
+    match find_claimed(alloc, inputs, &mut unheard, &words.check) {
+        Ok(claimed) => answer_run_alone(alloc, words, claimed),
+        Err(fault) => Ok(Answer::Ends(fault.response(alloc, b"".as_slice())?)),
+    }
+}
+
+/// Reads the files of these words again, and accepts what `run` would order of them.
+pub(crate) fn read_anew<'a, R: Files, I: Inputs>(
     rt: &R,
     alloc: Global,
-    words: &RunWords<'_>,
-) -> Result<Accepted, Rejection> {
+    inputs: &mut I,
+    words: RunWords<'a>,
+) -> Result<Accepted<'a>, Rejection>
+    requires { IsFresh (I.whole inputs.old) (I.left inputs.old) }
+    ensures order { IfOk result (λ accepted. RunAnswers (asked_run words.entry)
+        (I.whole inputs.old) (I.failed inputs.old) (I.failed inputs.new) (Runs accepted.order)) }
+    ensures ending { IfErr result (IsRejection (asked_run words.entry)
+        (I.whole inputs.old) (I.failed inputs.old) (I.failed inputs.new)) }
+{
     let files = &words.check;
     let jobs = files.anacrontab.unwrap_or(files.table);
     let paths = [files.table, files.declarations, files.certificate, jobs];
@@ -211,26 +197,37 @@ pub(crate) fn read_anew<R: Files + Input>(
     if !has_output(rt, words.output) {
         return Err(Rejection::NoOutput);
     }
-    let (mut inputs, mut unheard) = (Machine::new(rt), Printer::new(io::sink()));
-    match find_claimed(alloc, &mut inputs, &mut unheard, &words.check) {
-        Ok(claimed) => rule(alloc, claimed),
-        Err(fault) => Err(rejected_by(fault.response(alloc, b"".as_slice()))),
+    match answer_anew(alloc, inputs, words) {
+        Ok(Answer::Runs(order)) => accept(rt, alloc, order),
+        Ok(Answer::Ends(response)) => Err(Rejection::Answered(response)),
+        Ok(Answer::Stops(_)) => unreachable!(),
+        Ok(Answer::Reloads(_)) => unreachable!(),
+        Ok(Answer::Tells(_)) => unreachable!(),
+        Err(AllocError) => Err(Rejection::NoMemory),
     }
 }
 
-impl Accepted {
-    /// Returns the order that these words of `run` make of it.
-    pub(crate) fn order<'a>(self, words: RunWords<'a>) -> Order<'a>
-        ensures of { IsOrderOf (asked_run words.entry) result }
-        ensures taken { (result.checked ≡ self.checked) × (result.warnings ≡ self.warnings)
-            × (result.digests ≡ self.digests) }
+impl Accepted<'_> {
+    /// Returns the order by these words of `run`.
+    pub(crate) fn order<'w>(self, words: RunWords<'w>) -> Order<'w>
+        ensures { IsOrderOf (asked_run words.entry) result }
     {
-        self.checked.is_safe();
+        let Accepted { order, warnings } = self;
+        order.checked.is_safe();
+        let Order {
+            checked,
+            owners,
+            warnings: notes,
+            digests,
+            ..
+        } = order;
+        drop(notes);
         Order {
-            checked: self.checked,
-            warnings: self.warnings,
+            checked,
+            owners,
+            warnings,
             words,
-            digests: self.digests,
+            digests,
         }
     }
 }

@@ -3,7 +3,7 @@ use cs_args::version_text;
 use cs_civil::{Minute, date_text};
 use cs_crontab::Line;
 use cs_daemon::Cause;
-use cs_machine::{ClockBack, JobNote, Remarks, RunLog, Setup, ToldFile};
+use cs_machine::{ClockBack, JobNote, Remarks, RunLog, Setup, Tally, ToldFile};
 use cs_ruling::Order;
 use cs_table::Setting;
 use std::alloc::{AllocError, Global};
@@ -45,20 +45,44 @@ impl<'a, 'r, R: Clock + Wait, W: Write> Hand<'a, 'r, R, W> {
         let _ = self.log.lock(self.rt).note(line);
     }
 
-    /// Writes so what runners have left for the log.
-    pub(crate) fn note_remarks(&mut self) {
-        for remark in self.remarks.take(self.rt) {
-            self.note(remark.as_slice());
+    /// Writes a line, in these two parts, also if the log has no times.
+    pub(crate) fn tell(&mut self, alloc: Global, front: &[u8], words: &[u8]) {
+        if let Ok(line) = joined(alloc, &[front, words, b"\n"]) {
+            let _ = self.log.lock(self.rt).write(line.as_slice());
         }
     }
 
-    /// Writes so each line of a text that isn't empty.
+    pub(crate) fn note_remarks(&mut self) {
+        for remark in self.remarks.take(self.rt) {
+            let _ = self.log.lock(self.rt).note_left(remark.as_slice());
+        }
+    }
+
+    /// Notes the lines that aren't empty.
     pub(crate) fn note_lines(&mut self, text: &[u8]) {
         for line in text.split(|byte| *byte == b'\n') {
             if !line.is_empty() {
                 self.note(line);
             }
         }
+    }
+
+    /// Empty if memory runs out.
+    pub(crate) fn awaited(&self, alloc: Global, drains: bool) -> Vec<u8> {
+        let log = self.log.lock(self.rt);
+        let text = if drains { log.drained() } else { log.awaited() };
+        match text {
+            Ok(text) => text,
+            Err(AllocError) => Vec::new(alloc),
+        }
+    }
+
+    pub(crate) fn tally(&self) -> Tally {
+        self.log.lock(self.rt).tally()
+    }
+
+    pub(crate) fn miss(&mut self, latest: Minute, now: Minute) {
+        self.log.lock(self.rt).miss(latest, now);
     }
 
     /// Notes that the daemon starts nothing more, and why. From then on nobody asks for its state.
@@ -110,7 +134,10 @@ pub(crate) fn setup_of<'a>(order: &Order<'a>, jobs: &'a [JobNote]) -> Setup<'a> 
         capacity: u64::from(order.checked.plan().capacity()),
         offset: order.checked.plan().offset(),
         jobs,
-        has_hooks: words.on_overrun.is_some() || words.on_failure.is_some(),
+        has_hooks: words.on_overrun.is_some()
+            || words.on_failure.is_some()
+            || words.on_limit.is_some(),
+        has_limits: words.enforce,
     }
 }
 
@@ -174,6 +201,12 @@ impl<'a, 'r, R: Clock + Wait, W: Write> Hand<'a, 'r, R, W> {
         }
     }
 
+    pub(crate) fn note_first(&mut self, alloc: Global, first: Option<Minute>) {
+        if let Some(first) = first {
+            self.note_made(first_line(alloc, first));
+        }
+    }
+
     fn note_mail(&mut self, alloc: Global, settings: &[Setting], table: &str) {
         for setting in settings {
             if setting.name() == b"MAILTO".as_slice() && !setting.value().is_empty() {
@@ -213,6 +246,15 @@ pub(crate) fn closing(cause: Cause) -> &'static [u8] {
         Cause::NoMemory => "ended, for memory ran out",
     };
     line.as_bytes()
+}
+
+pub(crate) fn first_line(alloc: Global, first: Minute) -> Result<Vec<u8>, AllocError> {
+    let first = date_text(first);
+    let (front, behind) = (
+        b"begins in ".as_slice(),
+        b" and starts nothing due in it".as_slice(),
+    );
+    joined(alloc, &[front, &first, behind])
 }
 
 /// That the minutes after the one and up to the other belong to no plan.

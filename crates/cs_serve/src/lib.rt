@@ -5,6 +5,7 @@ mod anew;
 mod diary;
 mod hooks;
 mod laws;
+mod leftover;
 mod notes;
 mod obstacle;
 mod serving;

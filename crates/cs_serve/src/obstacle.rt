@@ -8,9 +8,12 @@ use cs_ruling::Order;
 pub(crate) enum Obstacle {
     NoFolder,
     InUse,
+    Exposed,
     Unlocked,
     RequestStays,
+    RunsUnread,
     NoHome,
+    NotRoot,
     NoLog,
     NoOutput,
 }
@@ -23,9 +26,12 @@ impl Obstacle {
         match self {
             Obstacle::NoFolder => "no folder ",
             Obstacle::InUse => "another daemon uses ",
+            Obstacle::Exposed => "other users can write to ",
             Obstacle::Unlocked => "can't lock ",
             Obstacle::RequestStays => "can't remove old requests from ",
+            Obstacle::RunsUnread => "can't read the list of runs in ",
             Obstacle::NoHome => "no home folder, the user of this process isn't in ",
+            Obstacle::NotRoot => "only root can run the gathered table ",
             Obstacle::NoLog => "can't write ",
             Obstacle::NoOutput => "no folder ",
         }
@@ -38,6 +44,7 @@ impl Obstacle {
             Obstacle::NoLog => order.words.log.unwrap_or(""),
             Obstacle::NoOutput => order.words.output.unwrap_or(""),
             Obstacle::NoHome => "/etc/passwd",
+            Obstacle::NotRoot => order.words.check.table,
             _ => order.words.stamps,
         }
     }

@@ -1,13 +1,14 @@
 //! Runs of checked tables on this machine.
-ghost use Rattle.std.specs.Prelude.{◌≡◌, IfOk, IfSome, vec_len};
+ghost use Rattle.std.specs.Prelude.{◌≡◌, if◌then◌else◌, IfOk, IfSome, IsTrue, None, Some, vec_len};
 ghost use Rattle.cs_check.specs.Checked.{plan_in};
+ghost use Rattle.cs_daemon.specs.declared.end.Cause.TheVariants.{Stopped};
 ghost use Rattle.cs_files.specs.Response.{status_of};
 ghost use Rattle.cs_files.specs.Ending.{sink};
 ghost use Rattle.cs_args.specs.Asked.{asked_run};
-ghost use Rattle.cs_serve.specs.Serve.{IsFollowed, IsNextOf, IsServedBehind, IsServedBy, Refuses};
-ghost use Rattle.cs_serve.specs.Serve.{RunsOutBehind, Serves, ServesOne, cause_status, farewell};
+ghost use Rattle.cs_serve.specs.Serve.{IsFollowed, IsNextOf, IsRun, IsServedBy, Refuses};
+ghost use Rattle.cs_serve.specs.Serve.{RunsOutBehind, Serves, ServesOne, cause_status, farewell, taken_away};
 
-use crate::anew::{Accepted, has_output, open_log};
+use crate::anew::{Accepted, has_output};
 use crate::diary::{Hand, closing, gap_line, setup_of};
 use crate::hooks::{Streams, call_hooks};
 use crate::notes::notes_of;
@@ -15,15 +16,17 @@ use crate::obstacle::Obstacle;
 use crate::watch::{DaemonFiles, Idle, Watch};
 use cs_args::RunWords;
 use cs_check::Checked;
+use cs_civil::{Minute, Sequence};
 use cs_daemon::{Cause, run_daemon};
 use cs_device::{Gate, Point, Runner, StampStore, Tick};
 use cs_files::{Status, finish, run_out, tell};
 use cs_history::Run;
 use cs_io::Output;
 use cs_machine::{
-    FolderLock, Home, JobNote, LockFault, MachineClock, RunLog, RunnerSetup, RunnerWords,
-    StampsFolder, runners_by,
+    FolderLock, Home, JobNote, LockFault, MachineClock, ReadyOut, RunList, RunLog, RunnerSetup,
+    RunnerWords, StampsFolder, Tally, is_exposed, is_root, open_log, runners_by,
 };
+use cs_owner::Owner;
 use cs_ruling::Order;
 use std::alloc::{AllocError, Global};
 use std::fs::File;
@@ -69,6 +72,8 @@ fn farewell(cause: Cause) -> &'static str
     }
 }
 
+const TAKEN_AWAY: &str = "cronsafe: the folder of stamps was taken away\n";
+
 fn refuse<O: Output, E: Output>(
     alloc: Global,
     order: Order<'_>,
@@ -103,8 +108,8 @@ fn run_out_unserved<E: Output>(order: Order<'_>, err: &mut E) -> Status
     run_out(err)
 }
 
-/// Runs a checked plan with these devices until it ends, and returns the status and the cause.
-/// Events go to the log, and why it ended to standard error.
+/// Runs a checked plan with these devices until it ends, and returns the status, the cause, and the
+/// minute in which it ended at rest. Events go to the log, and why it ended to standard error.
 fn serve_by<
     R: Threads + Wait + Sync,
     C: cs_device::Clock,
@@ -116,14 +121,15 @@ fn serve_by<
     rt: &R,
     alloc: Global,
     checked: Checked,
+    owners: Sequence<Owner>,
     clock: &mut C,
     runners: Vec<W>,
     store: &mut S,
     log: &mut O,
     err: &mut E,
-) -> (Status, Cause)
+) -> (Status, Cause, Option<Minute>)
     requires { vec_len runners ≡ (plan_in checked).capacity }
-    ensures served { IsServedBy checked
+    ensures served { IsServedBy checked owners
         (record {
           last = C.last clock.old;
           top = C.top clock.old;
@@ -143,17 +149,20 @@ fn serve_by<
         (status_of result.0) }
     ensures cause { status_of result.0 ≡ cause_status result.1 }
 {
-    let end = run_daemon(rt, alloc, checked, clock, runners, &OpenGate, store, log);
-    let cause = end.cause;
+    let end = run_daemon(
+        rt, alloc, checked, owners, clock, runners, &OpenGate, store, log,
+    );
+    let (cause, rest) = (end.cause, end.rest);
     drop(end);
     tell(err, farewell(cause).as_bytes());
-    (status_for(cause), cause)
+    (status_for(cause), cause, rest)
 }
 
 #[derive(Drop)]
 struct Next<'a, R> {
     order: Order<'a>,
     clock: MachineClock<'a, R, Idle>,
+    tally: Tally,
 }
 
 /// Lets a clock go on to the present minute, in which the next plan opens, and notes which minutes
@@ -170,9 +179,24 @@ fn note_gap<R: Clock + Wait, W: Write>(
         return;
     };
     if latest != now {
+        hand.miss(latest, now);
         if let Ok(line) = gap_line(alloc, latest, now) {
             hand.note(line.as_slice());
         }
+    }
+}
+
+fn open_next<R: Clock + Wait, W: Write>(
+    alloc: Global,
+    rest: Option<Minute>,
+    hand: &mut Hand<'_, '_, R, W>,
+    clock: &mut MachineClock<'_, R, Idle>,
+)
+    ensures { IfSome rest (λ minute. clock.new.latest ≡ Some minute) }
+{
+    match rest {
+        Some(minute) => clock.set_to(minute),
+        None => note_gap(alloc, hand, clock),
     }
 }
 
@@ -180,12 +204,15 @@ fn note_gap<R: Clock + Wait, W: Write>(
 fn next_of<'a, R: Clock + Wait, W: Write>(
     alloc: Global,
     cause: Cause,
-    accepted: Option<Accepted>,
+    rest: Option<Minute>,
+    accepted: Option<Accepted<'_>>,
     words: &RunWords<'a>,
     clock: MachineClock<'a, R, Idle>,
     hand: &mut Hand<'_, '_, R, W>,
 ) -> Option<Next<'a, R>>
-    ensures { IfSome result (λ next. IsNextOf cause (asked_run words.entry.now) next.order) }
+    ensures next { IfSome result (λ next. IsNextOf cause (asked_run words.entry.now) next.order) }
+    ensures opens { IfSome result (λ next. IfSome rest
+        (λ minute. next.clock.latest ≡ Some minute)) }
 {
     let accepted = accepted?;
     if cause != Cause::Stopped {
@@ -193,9 +220,20 @@ fn next_of<'a, R: Clock + Wait, W: Write>(
         return None;
     }
     let mut clock = clock;
-    note_gap(alloc, hand, &mut clock);
+    open_next(alloc, rest, hand, &mut clock);
     let order = accepted.order(*words);
-    Some(Next { order, clock })
+    let tally = hand.tally();
+    Some(Next {
+        order,
+        clock,
+        tally,
+    })
+}
+
+fn has_lost(is_lost: bool, cause: Cause) -> bool
+    ensures { IsTrue result → cause ≡ Stopped }
+{
+    is_lost && cause == Cause::Stopped
 }
 
 /// Writes the warnings, runs the order on the machine's clock until it ends, and returns what is
@@ -220,12 +258,13 @@ fn serve_on<
     runners: Vec<W>,
     log: &mut L,
     is_timed: bool,
+    tally: Tally,
     err: &mut E,
 ) -> (Status, Option<Next<'w, R>>)
     requires words { asked_run words ≡ asked_run order.words }
     requires runners { vec_len runners ≡ (plan_in order.checked).capacity }
     requires fresh { stamps.old.failures ≡ 0 }
-    ensures served { IsServedBehind order.entry
+    ensures served { IsRun order.entry
         (sink (E.contents err.old) (E.failed err.old))
         (sink (E.contents err.new) (E.failed err.new))
         (status_of result.0) }
@@ -236,10 +275,13 @@ fn serve_on<
 {
     tell(err, order.warnings.as_slice());
     let setup = setup_of(&order, jobs);
-    let log = Mutex::new(RunLog::new(rt, alloc, &mut *log, is_timed, setup));
+    let mut log = RunLog::new(rt, alloc, &mut *log, is_timed, setup);
+    log.count_on(tally);
+    let log = Mutex::new(log);
     let mut hand = Hand::new(rt, &log, &files.state, streams.remarks);
     hand.note_opening(alloc, &order);
     hand.keep_state();
+    files.leave_running();
     let watch = Watch::new(
         rt,
         alloc,
@@ -249,10 +291,12 @@ fn serve_on<
         Hand::new(rt, &log, &files.state, streams.remarks),
     );
     let (mut clock, _) = clock.resumed(order.checked.plan().offset(), watch);
-    let (status, cause) = serve_by(
+    hand.note_first(alloc, clock.latest());
+    let (status, cause, rest) = serve_by(
         rt,
         alloc,
         order.checked,
+        order.owners,
         &mut clock,
         runners,
         stamps,
@@ -263,10 +307,26 @@ fn serve_on<
     hand.note(closing(cause));
     let offset = clock.offset();
     let (clock, watch) = clock.resumed(offset, Idle);
-    let next = next_of(alloc, cause, watch.accepted, &words, clock, &mut hand);
+    if has_lost(watch.is_lost, cause) {
+        drop(watch);
+        drop(clock);
+        drop(hand);
+        drop(log);
+        tell(err, TAKEN_AWAY.as_bytes());
+        return (Status::DeviceFailed, None);
+    }
+    hand.keep_state();
+    files.leave_word(log.lock(rt).last_word());
+    let next = next_of(alloc, cause, rest, watch.accepted, &words, clock, &mut hand);
     drop(hand);
     drop(log);
     (status, next)
+}
+
+fn enforced_at(words: &RunWords<'_>, offset: i16) -> Option<i16>
+    ensures { result ≡ (if (asked_run words.now).enforce then Some offset else None) }
+{
+    if words.enforce { Some(offset) } else { None }
 }
 
 /// How many files of each job are kept in the folder for output, by default.
@@ -289,6 +349,7 @@ fn serve_one<
     streams: Streams<'x>,
     files: &DaemonFiles<'x>,
     stamps: &mut StampsFolder<'_, '_, R>,
+    tally: Tally,
     out: &mut O,
     err: &mut E,
     new_runner: &F,
@@ -317,6 +378,7 @@ fn serve_one<
         tells_signals: words.log.is_some(),
         output: words.output,
         keep: words.keep.unwrap_or(KEPT),
+        offset: enforced_at(&words, order.checked.plan().offset()),
     };
     let Ok(runners) = runners_by(alloc, number, setup, new_runner) else {
         return (run_out_unserved(order, err), None);
@@ -325,9 +387,10 @@ fn serve_one<
     match words.log {
         None | Some("-") => {
             let is_timed = words.log.is_some();
+            let out = &mut ReadyOut::new(out, streams.out);
             serve_on(
                 rt, alloc, order, words, clock, jobs, streams, files, stamps, runners, out,
-                is_timed, err,
+                is_timed, tally, err,
             )
         }
         Some(path) => match open_log(rt, path) {
@@ -335,7 +398,7 @@ fn serve_one<
                 let log = &mut log;
                 serve_on(
                     rt, alloc, order, words, clock, jobs, streams, files, stamps, runners, log,
-                    true, err,
+                    true, tally, err,
                 )
             }
             Err(_) => (refuse(alloc, order, Obstacle::NoLog, out, err), None),
@@ -374,9 +437,10 @@ fn serve_in_turn<
     let offset = order.checked.plan().offset();
     let mut clock = MachineClock::new(rt, offset, order.words.minutes, Idle);
     let mut order = order;
+    let mut tally = Tally::NONE;
     for _ in rt.forever() {
         let (status, next) = serve_one(
-            rt, alloc, order, clock, streams, files, stamps, out, err, new_runner,
+            rt, alloc, order, clock, streams, files, stamps, tally, out, err, new_runner,
         );
         let Some(next) = next else {
             return status;
@@ -387,6 +451,7 @@ fn serve_in_turn<
         }
         order = next.order;
         clock = next.clock;
+        tally = next.tally;
     }
     unreachable!()
 }
@@ -396,37 +461,49 @@ const MOMENT: u64 = 300;
 
 /// Locks a folder of stamps. Another program may have it locked for a moment, to see whether a
 /// daemon has: that is waited for.
-fn lock<R: Files<File = File> + Clock>(rt: &R, folder: &str) -> Result<FolderLock, LockFault> {
-    match FolderLock::take(rt, folder) {
+fn lock<R: Files<File = File> + Clock>(
+    rt: &R,
+    alloc: Global,
+    folder: &str,
+) -> Result<FolderLock, LockFault> {
+    match FolderLock::take(rt, alloc, folder) {
         Err(LockFault::InUse) => {
             thread::sleep(rt, Duration::from_millis(MOMENT));
-            FolderLock::take(rt, folder)
+            FolderLock::take(rt, alloc, folder)
         }
         taken => taken,
     }
 }
 
-/// Opens and locks a folder of stamps, and removes the requests to an earlier daemon.
-fn enter<'r, 'f, R: Files<File = File> + Clock>(
+/// Opens and locks a folder of stamps, removes the requests to an earlier daemon, and reads which
+/// runs it left.
+fn enter<'r, 'f, R: Files<File = File> + Clock + Wait>(
     rt: &'r R,
     alloc: Global,
     folder: &'f str,
-    files: &DaemonFiles<'_>,
-) -> Result<(StampsFolder<'r, 'f, R>, FolderLock), Obstacle>
-    ensures { IfOk result (λ entered. entered.0.failures ≡ 0) }
+    files: &mut DaemonFiles<'_>,
+    runs: &RunList,
+) -> Result<StampsFolder<'r, 'f, R>, Obstacle>
+    ensures { IfOk result (λ stamps. stamps.failures ≡ 0) }
 {
     let Ok(stamps) = StampsFolder::open(rt, alloc, folder) else {
         return Err(Obstacle::NoFolder);
     };
-    let lock = match lock(rt, folder) {
-        Ok(lock) => lock,
+    if is_exposed(rt, folder) {
+        return Err(Obstacle::Exposed);
+    }
+    match lock(rt, alloc, folder) {
+        Ok(lock) => files.keep(lock),
         Err(LockFault::InUse) => return Err(Obstacle::InUse),
         Err(LockFault::Failed) => return Err(Obstacle::Unlocked),
-    };
+    }
     if files.clear(rt).is_err() {
         return Err(Obstacle::RequestStays);
     }
-    Ok((stamps, lock))
+    if runs.open(rt, folder).is_err() {
+        return Err(Obstacle::RunsUnread);
+    }
+    Ok(stamps)
 }
 
 /// Runs an order until it ends, and returns the status. Nothing is run unless the folder of stamps
@@ -455,19 +532,29 @@ pub fn serve<
         (sink (E.contents err.new) (E.failed err.new))
         (status_of result) }
 {
-    let Ok(files) = DaemonFiles::of(alloc, order.words.stamps) else {
+    let Ok(mut files) = DaemonFiles::of(alloc, order.words.stamps) else {
         return run_out_unserved(order, err);
     };
     if order.words.home && Home::of_process(rt, alloc).is_none() {
         drop(files);
         return refuse(alloc, order, Obstacle::NoHome, out, err);
     }
+    if !order.owners.is_empty() && !is_root(rt) {
+        drop(files);
+        return refuse(alloc, order, Obstacle::NotRoot, out, err);
+    }
     if !has_output(rt, order.words.output) {
         drop(files);
         return refuse(alloc, order, Obstacle::NoOutput, out, err);
     }
-    match enter(rt, alloc, order.words.stamps, &files) {
-        Ok((mut stamps, _lock)) => {
+    match enter(
+        rt,
+        alloc,
+        order.words.stamps,
+        &mut files,
+        &streams.remarks.runs,
+    ) {
+        Ok(mut stamps) => {
             serve_in_turn(
                 rt,
                 alloc,

@@ -3,26 +3,22 @@
 //! accepts.
 
 use crate::plans::{TIGHT, answer};
-use cs_check::CheckError;
+use cs_check::{CheckError, Checked};
 use cs_theorem::CheckFault;
 
 /// Whether two runs meet where one may run: at 1970-01-03 01:00, on the first day that is checked.
-fn is_over_at_one(fault: &CheckFault) -> bool {
-    match fault {
-        CheckFault::OverCapacity { at, load } => (at.number(), *load) == (2_940, 2),
-        _ => false,
-    }
-}
-
-fn is_too_full(error: &CheckError) -> bool {
-    match error {
-        CheckError::Fault(fault) => is_over_at_one(fault),
+fn is_over_at_one(answer: &Result<Checked, CheckError>) -> bool {
+    match answer {
+        Err(CheckError::Fault(CheckFault::OverCapacity { at, load })) => {
+            (at.number(), *load) == (2_940, 2)
+        }
         _ => false,
     }
 }
 
 #[test]
 fn over_the_capacity(rt: HostRuntime) {
-    let error = answer(&rt, rt.alloc(), &TIGHT).err().expect(&rt, "refused");
-    assert!(rt; is_too_full(&error));
+    let answer = answer(&rt, rt.alloc(), &TIGHT);
+    assert!(rt; is_over_at_one(&answer));
+    drop(answer);
 }

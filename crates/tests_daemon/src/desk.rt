@@ -58,6 +58,7 @@ impl<L: Ledger> Desk<L> {
     {
         let checked = checked(rt, alloc, texts);
         let opened: Option<Desk<L>> = Desk::open(alloc, blank, parts, &checked, up);
+        drop(checked);
         opened.expect(rt, "memory")
     }
 
@@ -79,12 +80,8 @@ impl<L: Ledger> Desk<L> {
         self.keep.total()
     }
 
-    pub(crate) fn length(&self) -> usize {
-        self.keep.journal().len()
-    }
-
     pub(crate) fn counts(&self) -> Counts {
-        (self.total(), self.length(), self.seat.share())
+        (self.total(), self.keep.journal().len(), self.seat.share())
     }
 
     pub(crate) fn now(&self) -> Minute {
@@ -111,14 +108,12 @@ impl<L: Ledger> Desk<L> {
         if from > journal.len() || journal.len() - from != events.len() {
             return false;
         }
-        let entries = journal.iter().skip(from);
-        entries
-            .zip(events)
-            .all(|(entry, event)| entry.event() == *event)
-    }
-
-    pub(crate) fn split(&mut self) -> Option<Seat<L>> {
-        self.seat.split()
+        for place in 0..events.len() {
+            if journal[from + place].event() != events[place] {
+                return false;
+            }
+        }
+        true
     }
 
     pub(crate) fn close(self, checked: Checked) -> Kept

@@ -42,6 +42,8 @@ pub(crate) struct ListClock<'a, R> {
     pub(crate) writes: u64,
     pub(crate) at: usize,
     pub(crate) repeats: u64,
+    pub(crate) more: u64,
+    pub(crate) rest_from: u64,
     pub(crate) told: Told,
 }
 
@@ -88,6 +90,25 @@ impl<'a, R: time::Clock> Clock for ListClock<'a, R> {
         let tick = self.next();
         self.told.tell(tick)
     }
+
+    fn stops_at_rest(&mut self) -> bool {
+        let stops = self.seen.minute.load(Ordering::SeqCst) >= self.rest_from;
+        if stops {
+            self.told.tell(Tick::Stop);
+        }
+        stops
+    }
+
+    fn look_on(&mut self) -> Option<Minute> {
+        thread::sleep(self.rt, Duration::from_millis(1));
+        let mut minute = self.seen.minute.load(Ordering::SeqCst);
+        if self.more > 0 {
+            self.more -= 1;
+            minute = minute.saturating_add(1);
+            self.seen.minute.store(minute, Ordering::SeqCst);
+        }
+        Minute::new(minute)
+    }
 }
 
 const KILLED: &str = "job cron.daily at 2024-01-01 01:00";
@@ -112,9 +133,11 @@ impl Runner for FailingRunner {
     fn run(
         &mut self,
         name: &[u8],
+        _user: Option<&[u8]>,
         _command: &[u8],
         _input: Option<&[u8]>,
         _env: &[(Bytes, Bytes)],
+        _until: Option<Minute>,
     ) -> Outcome {
         self.runs = self.runs.saturating_add(1);
         if self.runs == self.fails && self.failures.count() {

@@ -137,6 +137,19 @@ fn overrun(rt: HostRuntime) {
     assert!(&rt; played.count("overrun line 1 due 2024-01-01 01:00\n") == 1);
 }
 
+/// So is one that still runs when the clock has stopped.
+#[test]
+fn overrun_at_the_end(rt: HostRuntime) {
+    let alloc: Global = rt.alloc();
+    let minutes = [MIDNIGHT + 59, MIDNIGHT + 60];
+    let mut script = Script::plain(&SHORT, &minutes);
+    script.hold = Hold::Until(MIDNIGHT + 66);
+    script.more = 6;
+    let played = play(&rt, alloc, &script);
+    assert!(&rt; played.end.overruns == 1 && played.end.total == 5 && played.missed == 0);
+    assert!(&rt; played.count("overrun line 1 due 2024-01-01 01:00\n") == 1);
+}
+
 fn is_stamped(played: &Played) -> bool {
     match played.end.keep {
         Some(keep) => keep.is_stamped,

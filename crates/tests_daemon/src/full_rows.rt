@@ -31,15 +31,11 @@ fn is_full_for_a_tick<L: Ledger>(desk: &mut Desk<L>) -> bool {
     desk.tick(last, next) == Err(TickFault::HistoryFull)
 }
 
-fn is_full<L: Ledger>(desk: &Desk<L>) -> bool {
-    desk.place() == ((4_194_304, MAX_ENTRIES, 4_194_304), LAST)
-}
-
 pub(crate) fn fill_and_cut<L: Ledger, R: Abort>(rt: &R, desk: &mut Desk<L>) {
     assert!(rt; MAX_ENTRIES == 4_194_304 && fill(desk) == Some(Refusal::HistoryFull));
-    assert!(rt; is_full(desk));
-    assert!(rt; is_full_for_a_tick(desk));
-    assert!(rt; is_full(desk));
+    let full = ((4_194_304, MAX_ENTRIES, 4_194_304), LAST);
+    assert!(rt; desk.place() == full);
+    assert!(rt; is_full_for_a_tick(desk) && desk.place() == full);
     assert!(rt; desk.cut() && desk.step(Event::Minute(NEXT)).is_ok());
     assert!(rt; desk.counts() == (4_194_305, 1, 4_194_305));
 }

@@ -54,6 +54,7 @@ fn open_and_go<L: Ledger, R: Abort>(rt: &R, alloc: Global, blank: Blank, row: Ro
     let (texts, up) = row.opening();
     let mut desk: Desk<L> = Desk::of(rt, alloc, blank, 1, texts, up);
     row.go(rt, alloc, &mut desk);
+    drop(desk);
 }
 
 fn go<R: Abort>(rt: &R, alloc: Global, row: Row) {

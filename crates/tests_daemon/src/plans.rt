@@ -3,13 +3,12 @@ ghost use Rattle.std.specs.Prelude.{◌≤◌, IfSome};
 ghost use Rattle.cs_history.specs.Plan.{first_start};
 
 use arrayvec::ArrayVec;
-use cs_anacrontab::{Anacrontab, read_anacrontab};
+use cs_anacrontab::read_anacrontab;
 use cs_cert::read_certificate;
 use cs_check::{CheckError, Checked, check};
 use cs_civil::Minute;
-use cs_claims::Certificate;
-use cs_crontab::{Crontab, read_crontab};
-use cs_decl::{Declarations, join, read_declarations};
+use cs_crontab::read_crontab;
+use cs_decl::{join, read_declarations};
 use cs_history::Start;
 use cs_plan::Plan;
 use std::alloc::Global;
@@ -117,43 +116,21 @@ pub(crate) const CATCHING_UP: Texts = Texts {
         \"reach\":[],\"version\":1}",
 };
 
-pub(crate) fn crontab(rt: &impl Abort, alloc: Global, text: &str) -> Crontab {
-    read_crontab(alloc, text.as_bytes()).expect(rt, "a crontab")
-}
-
-fn anacrontab(rt: &impl Abort, alloc: Global, text: &str) -> Anacrontab {
-    read_anacrontab(alloc, text.as_bytes()).expect(rt, "an anacrontab")
-}
-
-fn declarations(rt: &impl Abort, alloc: Global, text: &str) -> Declarations {
-    read_declarations(alloc, text.as_bytes()).expect(rt, "declarations")
-}
-
-fn joined(
-    rt: &impl Abort,
-    alloc: Global,
-    crontab: Crontab,
-    anacrontab: Anacrontab,
-    declarations: Declarations,
-) -> Plan {
-    join(alloc, crontab, anacrontab, declarations).expect(rt, "a plan")
-}
-
 pub(crate) fn plan(rt: &impl Abort, alloc: Global, texts: &Texts) -> Plan {
-    let crontab = crontab(rt, alloc, texts.crontab);
-    let anacrontab = anacrontab(rt, alloc, texts.anacrontab);
-    let declarations = declarations(rt, alloc, texts.declarations);
-    joined(rt, alloc, crontab, anacrontab, declarations)
-}
-
-fn certificate(rt: &impl Abort, alloc: Global, text: &str) -> Certificate {
-    read_certificate(alloc, text.as_bytes()).expect(rt, "a certificate")
+    let crontab = read_crontab(alloc, texts.crontab.as_bytes()).expect(rt, "a crontab");
+    let anacrontab = read_anacrontab(alloc, texts.anacrontab.as_bytes());
+    let anacrontab = anacrontab.expect(rt, "an anacrontab");
+    let declarations = read_declarations(alloc, texts.declarations.as_bytes());
+    let declarations = declarations.expect(rt, "declarations");
+    join(alloc, crontab, anacrontab, declarations).expect(rt, "a plan")
 }
 
 pub(crate) fn answer(rt: &impl Abort, alloc: Global, texts: &Texts) -> Result<Checked, CheckError> {
     let plan = plan(rt, alloc, texts);
-    let certificate = certificate(rt, alloc, texts.certificate);
-    check(alloc, &plan, certificate)
+    let certificate = read_certificate(alloc, texts.certificate.as_bytes());
+    let answer = check(alloc, &plan, certificate.expect(rt, "a certificate"));
+    drop(plan);
+    answer
 }
 
 pub(crate) fn checked(rt: &impl Abort, alloc: Global, texts: &Texts) -> Checked {

@@ -6,7 +6,7 @@ use crate::devices::{FailingLog, FailingRunner, FailingStore, Hold, HoldingGate,
 use crate::plans::{Texts, checked};
 use arrayvec::ArrayVec;
 use cs_check::Checked;
-use cs_core::Core;
+use cs_civil::Sequence;
 use cs_daemon::{Cause, DaemonEnd, run_daemon};
 use cs_device::{Failures, Told};
 use cs_keep::Kept;
@@ -45,6 +45,10 @@ pub(crate) struct Script<'a> {
     pub(crate) writes: u64,
     /// How many of them fail, the first ones.
     pub(crate) failing: u64,
+    /// How many minutes more the clock shows once it has stopped.
+    pub(crate) more: u64,
+    /// From which minute on the clock stops a daemon at rest.
+    pub(crate) rest_from: u64,
 }
 
 impl<'a> Script<'a> {
@@ -59,6 +63,8 @@ impl<'a> Script<'a> {
             most: 10_000,
             writes: 0,
             failing: 0,
+            more: 0,
+            rest_from: u64::MAX,
         }
     }
 }
@@ -73,22 +79,14 @@ pub(crate) struct InKeep {
     pub(crate) is_stamped: bool,
 }
 
-fn is_stamped(core: &Core) -> bool {
-    matches!(core.stamps().first(), Some(Some(_)))
-}
-
-fn in_core(total: u64, core: &Core) -> InKeep {
+fn in_keep(kept: &Kept) -> InKeep {
+    let core = kept.core();
     InKeep {
-        total,
+        total: kept.total(),
         minute: core.now().number(),
         is_up: core.is_up(),
-        is_stamped: is_stamped(core),
+        is_stamped: matches!(core.stamps().first(), Some(Some(_))),
     }
-}
-
-fn in_keep(kept: &Kept) -> InKeep {
-    let total = kept.total();
-    in_core(total, kept.core())
 }
 
 #[derive(Drop)]
@@ -97,6 +95,7 @@ pub(crate) struct Ended {
     pub(crate) total: u64,
     pub(crate) shares: ArrayVec<u64, 65>,
     pub(crate) keep: Option<InKeep>,
+    pub(crate) rest: Option<u64>,
     pub(crate) not_started: u64,
     pub(crate) overruns: u64,
     pub(crate) stamp_faults: u64,
@@ -104,19 +103,38 @@ pub(crate) struct Ended {
 }
 
 fn look_into(end: DaemonEnd) -> Ended {
-    let keep = match &end.keep {
+    let DaemonEnd {
+        cause,
+        total,
+        shares,
+        keep,
+        owners,
+        rest,
+        not_started,
+        overruns,
+        stamp_faults,
+        log_faults,
+    } = end;
+    let left = match &keep {
         Some(kept) => Some(in_keep(kept)),
         None => None,
     };
+    let rest = match rest {
+        Some(minute) => Some(minute.number()),
+        None => None,
+    };
+    drop(keep);
+    drop(owners);
     Ended {
-        cause: end.cause,
-        total: end.total,
-        shares: end.shares,
-        keep,
-        not_started: end.not_started,
-        overruns: end.overruns,
-        stamp_faults: end.stamp_faults,
-        log_faults: end.log_faults,
+        cause,
+        total,
+        shares,
+        keep: left,
+        rest,
+        not_started,
+        overruns,
+        stamp_faults,
+        log_faults,
     }
 }
 
@@ -167,54 +185,47 @@ fn runners<R: Abort>(
     Ok(runners)
 }
 
-fn run<R: Threads + Wait + Abort + time::Clock + Sync>(
-    rt: &R,
-    alloc: Global,
-    script: &Script<'_>,
-    seen: &Seen,
-    log: &mut FailingLog,
-) -> Ended {
-    let checked = checked(rt, alloc, script.texts);
-    let runners = runners(rt, alloc, &checked, script.run_fails).expect(rt, "memory");
-    let mut clock = ListClock {
-        rt,
-        seen,
-        minutes: script.minutes,
-        writes: script.writes,
-        at: 0,
-        repeats: 10_000,
-        told: Told::nothing(),
-    };
-    let gate = HoldingGate {
-        rt,
-        seen,
-        hold: script.hold,
-        most: script.most,
-    };
-    let mut store = FailingStore {
-        seen,
-        left: script.failing,
-        failures: Failures::none(),
-    };
-    look_into(run_daemon(
-        rt, alloc, checked, &mut clock, runners, &gate, &mut store, log,
-    ))
-}
-
 pub(crate) fn play<R: Threads + Wait + Abort + time::Clock + Sync>(
     rt: &R,
     alloc: Global,
     script: &Script<'_>,
 ) -> Played {
+    let checked = checked(rt, alloc, script.texts);
+    let runners = runners(rt, alloc, &checked, script.run_fails).expect(rt, "memory");
     let seen = Seen::nothing();
+    let mut clock = ListClock {
+        rt,
+        seen: &seen,
+        minutes: script.minutes,
+        writes: script.writes,
+        at: 0,
+        repeats: 10_000,
+        more: script.more,
+        rest_from: script.rest_from,
+        told: Told::nothing(),
+    };
+    let gate = HoldingGate {
+        rt,
+        seen: &seen,
+        hold: script.hold,
+        most: script.most,
+    };
+    let mut store = FailingStore {
+        seen: &seen,
+        left: script.failing,
+        failures: Failures::none(),
+    };
     let mut log = FailingLog {
         text: Vec::new(alloc),
         writes: 0,
         fails: script.line_fails,
     };
-    let end = run(rt, alloc, script, &seen, &mut log);
+    let owners = Sequence::new(alloc);
+    let end = run_daemon(
+        rt, alloc, checked, owners, &mut clock, runners, &gate, &mut store, &mut log,
+    );
     Played {
-        end,
+        end: look_into(end),
         log: log.text,
         missed: seen.missed.load(Ordering::SeqCst),
     }

@@ -30,6 +30,33 @@ fn down(total: u64, minute: u64) -> Option<InKeep> {
     })
 }
 
+/// The run that is due in the minute of rest ends first.
+#[test]
+fn left_at_rest(rt: HostRuntime) {
+    let alloc: Global = rt.alloc();
+    let minutes = [MIDNIGHT + 59, MIDNIGHT + 60];
+    let mut script = Script::plain(&HOURLY, &minutes);
+    script.writes = 1;
+    script.rest_from = MIDNIGHT + 60;
+    let played = play(&rt, alloc, &script);
+    assert!(&rt; is_stopped(&played, 5, &[4, 1]) && played.end.keep == down(5, MIDNIGHT + 60));
+    assert!(&rt; played.end.rest == Some(MIDNIGHT + 60) && played.count(ENDED) == 1);
+}
+
+/// It isn't left at rest while a run goes on.
+#[test]
+fn stopped_at_rest_or_not(rt: HostRuntime) {
+    let alloc: Global = rt.alloc();
+    let minutes = [MIDNIGHT + 59, MIDNIGHT + 60];
+    let mut script = Script::plain(&HOURLY, &minutes);
+    script.hold = Hold::Until(MIDNIGHT + 61);
+    script.more = 1;
+    assert!(&rt; play(&rt, alloc, &script).end.rest.is_none());
+    let mut early = Script::plain(&HOURLY, &minutes[..1]);
+    early.more = 1;
+    assert!(&rt; play(&rt, alloc, &early).end.rest == Some(MIDNIGHT + 59));
+}
+
 /// The worker makes the end; the clock makes the coming up, the minute, the begin and the going
 /// down.
 #[test]

@@ -31,9 +31,9 @@ fn step_twice<L: Ledger, R: Abort>(rt: &R, desk: &mut Desk<L>) {
 fn split_twice<L: Ledger, R: Abort>(rt: &R, desk: &mut Desk<L>)
     requires { L.parts ≡ 2 }
 {
-    let other = desk.split().expect(rt, "a second part");
+    let other = desk.seat.split().expect(rt, "a second part");
     assert!(rt; is_seat(&other, 1, 0, 1) && is_seat(&desk.seat, 1, 1, 1));
-    assert!(rt; desk.split().is_none());
+    assert!(rt; desk.seat.split().is_none());
     desk.seat.join(other);
     assert!(rt; is_seat(&desk.seat, 2, 1, 1));
 }
@@ -52,6 +52,7 @@ fn count_minutes<L: Ledger, R: Abort>(rt: &R, alloc: Global, blank: Blank)
     step_twice(rt, &mut desk);
     split_twice(rt, &mut desk);
     cut_once(rt, &mut desk);
+    drop(desk);
 }
 
 /// A minute counts in total, journal and share, and is refused a second time; a seat is split and
@@ -61,13 +62,10 @@ fn minutes_are_counted(rt: HostRuntime) {
     count_minutes::<Brand, _>(&rt, rt.alloc(), Blank::new(2));
 }
 
-fn is_kept(kept: &Kept) -> bool {
-    (kept.total(), kept.journal().len()) == (1, 1)
-}
-
-/// The minute from which the journal goes on, the present one, and the certificate's version.
-fn rest_of(kept: &Kept) -> (u64, u64, u8) {
+fn rest_of(kept: &Kept) -> (u64, usize, u64, u64, u8) {
     (
+        kept.total(),
+        kept.journal().len(),
         kept.base().now().number(),
         kept.core().now().number(),
         kept.checked().certificate().version(),
@@ -84,7 +82,8 @@ fn close_keep<L: Ledger, R: Abort>(rt: &R, alloc: Global, blank: Blank)
     let mut desk = opened.expect(rt, "memory");
     assert!(rt; desk.step(Event::Minute(DUE)).is_ok());
     let kept = desk.close(checked);
-    assert!(rt; is_kept(&kept) && rest_of(&kept) == (BEFORE, DUE, 1));
+    assert!(rt; rest_of(&kept) == (1, 1, BEFORE, DUE, 1));
+    drop(kept);
 }
 
 /// A closed keep leaves its journal and what was checked.

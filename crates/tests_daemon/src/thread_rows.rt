@@ -77,6 +77,7 @@ fn share_and_sum<L: Ledger + Send + Sync, R: Threads + Wait + Abort + Sync>(
     seat.join(other);
     let desk = Desk { keep, seat };
     assert!(rt; desk.counts() == (5_000, 5_000, 5_000) && desk.seat.seen() == 5_000);
+    drop(desk);
 }
 
 /// The total is the sum of both shares, and each event stands in the journal.

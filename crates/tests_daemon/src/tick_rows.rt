@@ -12,7 +12,7 @@ fn tick<L: Ledger>(desk: &mut Desk<L>, last: u64, next: u64) -> Option<Result<()
 }
 
 fn makes<L: Ledger>(desk: &mut Desk<L>, last: u64, next: u64, events: &[Event]) -> bool {
-    let from = desk.length();
+    let (_, from, _) = desk.counts();
     tick(desk, last, next) == Some(Ok(())) && desk.ends_with(from, events)
 }
 

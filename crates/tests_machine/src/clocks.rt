@@ -62,7 +62,19 @@ impl<'a> Attendant for Counting<'a> {
         self.asked.get() >= self.end
     }
 
+    fn wait_to_begin(&mut self) -> bool {
+        true
+    }
+
     fn tell_back(&mut self, _back: ClockBack) {}
+
+    fn tell_over(&mut self) {}
+
+    fn attend(&mut self) {}
+
+    fn is_rest_awaited(&self) -> bool {
+        self.end == 0
+    }
 }
 
 /// 2023-02-28 22:59:00 in UTC, and its minute.
@@ -90,8 +102,8 @@ const TIMES: [u64; 10] = [
     SECOND - 60,
     SECOND - 3_600,
     SECOND - 3_660,
-    SECOND + 299,
-    SECOND + 300,
+    SECOND + 359,
+    SECOND + 360,
     0,
     SECOND + 9_000,
 ];
@@ -105,7 +117,7 @@ fn looks_at_the_time(rt: HostRuntime) {
         at(MINUTE),
         at(MINUTE),
         at(MINUTE - 61),
-        at(MINUTE + 4),
+        at(MINUTE + 5),
         Tick::Stop,
         Tick::Failed,
         Tick::Stop,
@@ -141,6 +153,55 @@ fn ends_when_asked(end: u64) -> bool {
         }
     }
     next(&mut clock, MINUTE) == Tick::Stop && (time.slept.get(), asked.get()) == (end, end)
+}
+
+/// A request while the clock skips minutes is heard a second later: these are an outage. The next
+/// minute isn't skipped.
+#[test]
+fn asked_while_it_skips(rt: HostRuntime) {
+    let time = Time::new(SECOND);
+    let asked = Cell::new(0);
+    let attendant = Counting {
+        asked: &asked,
+        end: 2,
+    };
+    let mut clock = MachineClock::new(&time, 0, None, attendant);
+    assert!(rt; next(&mut clock, 0) == at(MINUTE) && asked.get() == 0);
+    time.set(Some(SECOND + 59));
+    assert!(rt; next(&mut clock, MINUTE) == at(MINUTE + 1) && asked.get() == 1);
+    time.set(Some(SECOND + 179));
+    assert!(rt; next(&mut clock, MINUTE + 1) == at(MINUTE + 3) && asked.get() == 1);
+    assert!(rt; next(&mut clock, MINUTE + 3) == Tick::Stop && asked.get() == 2);
+}
+
+/// A clock stops a daemon at rest only if its attendant waits for that.
+#[test]
+fn stops_at_rest(rt: HostRuntime) {
+    for end in 0..2 {
+        let time = Time::new(SECOND);
+        let asked = Cell::new(0);
+        let attendant = Counting { asked: &asked, end };
+        let mut clock = MachineClock::new(&time, 0, None, attendant);
+        assert!(rt; next(&mut clock, 0) == at(MINUTE));
+        assert!(rt; clock.stops_at_rest() == (end == 0) && asked.get() == 0);
+    }
+}
+
+/// A clock that was asked to stop still shows the time, and keeps its first answer.
+#[test]
+fn looks_on(rt: HostRuntime) {
+    let time = Time::new(SECOND);
+    let asked = Cell::new(0);
+    let attendant = Counting {
+        asked: &asked,
+        end: 1,
+    };
+    let mut clock = MachineClock::new(&time, 0, None, attendant);
+    assert!(rt; next(&mut clock, 0) == at(MINUTE) && next(&mut clock, MINUTE) == Tick::Stop);
+    time.set(Some(SECOND + 299));
+    assert!(rt; clock.look_on() == Minute::new(MINUTE + 5) && asked.get() == 1);
+    time.set(None);
+    assert!(rt; clock.look_on().is_none() && next(&mut clock, 0) == at(MINUTE));
 }
 
 /// The clock sleeps for a second before its second answer, the third and so on; at the request to

@@ -101,7 +101,7 @@ pub returns-in-Stop-clause-value : goal.returns-in-Stop-clause-value
 returns-in-Stop-clause-value g c = λ fresh. rw (c.in-Stop.is) ([], tries_nothing _, (refl, λ answer is. (refl, (c.in-Stop.words, refl, is))))
 
 pub returns-in-Reload-clause-value : goal.returns-in-Reload-clause-value
-returns-in-Reload-clause-value g c = λ fresh. rw (c.in-Reload.is) ([], tries_nothing _, (refl, λ answer is. (refl, (c.in-Reload.folder, refl, is))))
+returns-in-Reload-clause-value g c = λ fresh. rw (c.in-Reload.is) ([], tries_nothing _, (refl, λ answer is. (refl, (c.in-Reload.words, refl, is))))
 
 pub returns-in-Status-clause-value : goal.returns-in-Status-clause-value
 returns-in-Status-clause-value g c = λ fresh. rw (c.in-Status.is) ([], tries_nothing _, (refl, λ answer is. (refl, (c.in-Status.words, refl, is))))

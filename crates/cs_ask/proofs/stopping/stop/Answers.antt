@@ -5,6 +5,7 @@ use Rattle.cs_args.specs.Asked.{asked_stop, AskedStop}
 use Rattle.cs_ask.specs.Asking.{MayTell, Refuses}
 use Rattle.cs_ask.specs.Stopping.{Stops, waiting_text}
 use Rattle.cs_ask.specs.declared.asking.Refusal.{Refusal}
+use Rattle.cs_machine.specs.declared.last_word.StampsLeft.TheVariants.{AllWritten}
 use Rattle.cs_ask.proofs.stopping.stop.Goals as goal
 
 -- no daemon is stopped
@@ -22,7 +23,10 @@ returns-in_default g c =
     (err-old, inl refl, (λ now. refl), inr (inr ran))
 
 pub returns-in-Ok-ask_and_wait : goal.returns-in-Ok-ask_and_wait
-returns-in-Ok-ask_and_wait g c = (_, c.ask_and_wait.ensures.told, c.ask_and_wait.ensures.now, inl (refl, refl, refl))
+returns-in-Ok-ask_and_wait g c = (_, c.ask_and_wait.ensures.told, c.ask_and_wait.ensures.now, inl (_, left, c.tell_left.ensures))
+  where
+    left : (asked_stop c.args.words).now ≡ true → c.in-Ok-ask_and_wait.left ≡ AllWritten
+    left = c.in-Ok-ask_and_wait.ensures.left
 
 pub returns : goal.returns
 returns g c = refused_so c.in-Err.refusal (asked_stop c.args.words) _ _ _ _ _ _ c.ask_and_wait.ensures.told c.ask_and_wait.ensures.now c.refuse.ensures

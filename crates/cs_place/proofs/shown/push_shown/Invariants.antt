@@ -1,6 +1,10 @@
-use Rattle.std.proofs.Common.{◌≡◌, ◌++◌, take, flat_map}
-use Rattle.cs_place.specs.Shown.{shown}
+use Rattle.std.proofs.Common.{◌≡◌, ◌++◌, length}
+use Rattle.cs_place.specs.Shown.{shown_from, shown_text}
 use Rattle.cs_place.proofs.shown.push_shown.Given as goal
 
-abbrev pub invariant-loop-byte : goal.invariant-loop-byte
-invariant-loop-byte l = l.text.items ≡ l.fn.text.items ++ flat_map shown (take l.byte-index l.bytes)
+abbrev pub invariant-loop-rest : goal.invariant-loop-rest
+invariant-loop-rest l =
+    l.text.items ++ shown_from l.left l.rest ≡ l.fn.text.items ++ shown_text l.bytes
+
+abbrev pub decreases-loop-rest : goal.decreases-loop-rest
+decreases-loop-rest l = length l.rest

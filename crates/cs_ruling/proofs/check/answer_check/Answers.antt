@@ -13,10 +13,10 @@ returns-in-Ok g c =
     let r = c.in_ok-ruled.ensures in
     let is = accepted c.args.claimed c.in-Ok.checked c.as_slice.result.now c.in_ok-ruled.ruled c.as_slice.ensures c.in-Ok.is r.answer r.same r.safe in
     let same = ap (λ (d : Declared). done safe_text (plan_notes d)) (sym c.plan.ensures) in
-    IfOk-weaker c.acceptance.result (λ e. e ≡ done safe_text (plan_notes c.plan.result.now)) (IsReplyOn c.args.claimed) (λ e told. record {
+    IfOk-weaker c.acceptance-answer.result (λ e. e ≡ done safe_text (plan_notes c.plan.result.now)) (IsReplyOn c.args.claimed) (λ e told. record {
       verdict = subst (IsVerdictOn c.args.claimed) (same ∙ sym told) is.verdict;
       safe = λ zero. (c.in-Ok.checked, is);
-    }) c.acceptance.ensures
+    }) c.acceptance-answer.ensures
 
 pub returns : goal.returns
 returns g c =

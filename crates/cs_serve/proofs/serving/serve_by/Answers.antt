@@ -11,7 +11,7 @@ returns-clause-served g c =
     let err-old = sink (g.E.Output.contents c.args.err.now) (g.E.Output.failed c.args.err.now) in
     let err-new = sink (g.E.Output.contents c.tell.new.err) (g.E.Output.failed c.tell.new.err) in
     let e = c.run_daemon-end.ensures in
-    let run : HasRun c.args.checked before after c.run_daemon-end.result = record { threads = e.shares; shares = e.sum; none = e.none; same = e.checked; kept = e.kept; total = e.total; stopped = e.stopped; rises = e.rises; back = e.back; came = e.end; last_keep = e.end_keep; full_keep = e.full_keep; failed = e.failed; faults = e.faults } in
+    let run : HasRun c.args.checked c.args.owners before after c.run_daemon-end.result = record { threads = e.shares; shares = e.sum; none = e.none; same = e.checked; kept = e.kept; total = e.total; owned = e.owners; stopped = e.stopped; rises = e.rises; back = e.back; came = e.end; last_keep = e.end_keep; full_keep = e.full_keep; failed = e.failed; rest = e.rest; faults = e.faults } in
     let told : Tries (farewell c.run_daemon-end.result.cause) err-old err-new = subst (λ t. Tries t err-old err-new) (c.as_bytes.ensures.value ∙ c.farewell.ensures) c.tell.ensures in
     let by_cause : status_of c.status_for.result ≡ cause_status c.run_daemon-end.result.cause = search rules in
     record { end = c.run_daemon-end.result; run = run; told = told; by_cause = by_cause }

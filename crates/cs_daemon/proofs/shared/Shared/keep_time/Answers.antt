@@ -41,21 +41,39 @@ returns-in-Err-go_on-clause-written g c =
     then_written g.S.StampStore.writes g.J.PlanLedger.plan c.args.stored.now.stamps.items c.loop.stored.stamps.items c.go_on-in-loop.new.stored.stamps.items w.0
     c.args.store.now c.loop.store c.go_on-in-loop.new.store c.loop.invariant.written w.1 w.2
 
+pub returns-then-leaves_off-clause-rises : goal.returns-then-leaves_off-clause-rises
+returns-then-leaves_off-clause-rises g c = λ stopped.
+    let so = c.loop.invariant in
+    let gone = c.go_on-in-loop in
+    let same = c.leaves_off.ensures.risen in
+    let risen =
+    rising (g.C.Clock.top c.loop.clock) c.loop.last c.in-At.minute (g.C.Clock.risen c.args.clock.now) (g.C.Clock.risen c.loop.clock) (g.C.Clock.risen c.tick.new.self) c.args.seat.now.share c.loop.seat.share gone.new.seat.share
+    so.top so.rises c.in-At.ensures.risen gone.ensures.grows c.in_default-go_on.ensures.rises in
+    omega (arith, same, risen)
+
+pub returns-then-leaves_off-clause-written : goal.returns-then-leaves_off-clause-written
+returns-then-leaves_off-clause-written g c =
+    let w = c.go_on-in-loop.ensures.written in
+    then_written g.S.StampStore.writes g.J.PlanLedger.plan c.args.stored.now.stamps.items c.loop.stored.stamps.items c.go_on-in-loop.new.stored.stamps.items w.0
+    c.args.store.now c.loop.store c.go_on-in-loop.new.store c.loop.invariant.written w.1 w.2
+
 pub loop-preserved : goal.loop-preserved
 loop-preserved g c =
     let so = c.loop.invariant in
     let gone = c.go_on-in-loop in
+    let stays = c.leaves_off.ensures in
     let w = gone.ensures.written in
+    let risen =
+    rising (g.C.Clock.top c.loop.clock) c.loop.last c.in-At.minute (g.C.Clock.risen c.args.clock.now) (g.C.Clock.risen c.loop.clock) (g.C.Clock.risen c.tick.new.self) c.args.seat.now.share c.loop.seat.share gone.new.seat.share
+    so.top so.rises c.in-At.ensures.risen gone.ensures.grows c.in_default-go_on.ensures.rises in
     record {
       ends = (tt, tt);
       whole = gone.ensures.whole;
       now = c.in_default-go_on.ensures.now;
-      last = c.in-At.ensures.last;
-      top = omega (arith, c.in-At.ensures.top);
-      rises =
-          rising (g.C.Clock.top c.loop.clock) c.loop.last c.in-At.minute (g.C.Clock.risen c.args.clock.now) (g.C.Clock.risen c.loop.clock) (g.C.Clock.risen c.tick.new.self) c.args.seat.now.share c.loop.seat.share gone.new.seat.share
-          so.top so.rises c.in-At.ensures.risen gone.ensures.grows c.in_default-go_on.ensures.rises;
-      failures = omega (arith, so.failures, c.tick.ensures.failures);
+      last = stays.same c.if-leaves_off.false ∙ c.in-At.ensures.last;
+      top = omega (arith, c.in-At.ensures.top, stays.top);
+      rises = omega (arith, stays.risen, risen);
+      failures = omega (arith, so.failures, c.tick.ensures.failures, stays.failures);
       parts = gone.ensures.parts ∙ so.parts;
       grows = omega (arith, so.grows, gone.ensures.grows);
       written =

@@ -45,10 +45,15 @@ UNREAD = re.compile(
 # Outputs that aren't told are none, and so is a status.
 Answer = namedtuple("Answer", "status out err")
 
+# Bytes and characters of UTF-8 that a terminal obeys, that end a line or turn the text's direction.
+HARMFUL = re.compile(
+    rb"[\x00-\x1f\x7f\\]|\xc2[\x80-\x9f]|\xd8\x9c|\xe2\x80[\x8e\x8f\xa8-\xae]|\xe2\x81[\xa6-\xa9]"
+)
+
 
 def shown(text):
     """Returns bytes as a comment shows them: in one line, and harmless to a terminal."""
-    return re.sub(rb"[\x00-\x1f\x7f\\]", lambda it: b"\\x%02x" % it[0][0], text)
+    return HARMFUL.sub(lambda it: b"".join(b"\\x%02x" % byte for byte in it[0]), text)
 
 
 def as_read(text):

@@ -1,16 +1,19 @@
 -- A command that is gathered from a table, and the comment with its place.
-use Rattle.std.specs.Prelude.{ℕ, ◌||◌, ◌==◌, nat_lt, if◌then◌else◌, List, [], ◌∷◌, ◌++◌, map, flat_map, decimal, unwrap_or}
+use Rattle.std.specs.Prelude.{ℕ, ◌==◌, if◌then◌else◌, List, [], ◌∷◌, ◌++◌, map, flat_map, decimal, unwrap_or}
 use Rattle.cs_crontab.specs.Crontab.{CommandLine}
 use Rattle.cs_system.specs.System.{SystemCommand}
-use Rattle.cs_place.specs.Shown.{hex, shown, shown_text}
+use Rattle.cs_place.specs.Shown.{hex, shown_text}
 use Rattle.cs_gather.specs.Tables.{Given, name_of}
 use Rattle.cs_gather.specs.declared.line.Gathered.{Gathered}
 use Rattle.cs_gather.specs.declared.table.Table.{Table}
 use Rattle.cs_gather.specs.declared.table.Table.TheVariants.{System, User}
 
--- the user is one word of the comment: a blank is `\x20` too, and so is each byte above 127
-abbrev pub shown_in_user : ℕ → List ℕ
-shown_in_user b = if b == 32 || nat_lt 127 b then hex b else shown b
+-- the user is one word of the comment: a blank is `\x20` too
+abbrev pub in_word : ℕ → List ℕ
+in_word b = if b == 32 then hex b else b ∷ []
+
+abbrev pub user_text : List ℕ → List ℕ
+user_text name = flat_map in_word (shown_text name)
 
 -- `NAME:LINE`
 abbrev pub place_text : List ℕ → ℕ → List ℕ
@@ -20,7 +23,7 @@ abbrev pub of_system : List ℕ → SystemCommand → Gathered
 of_system name line = record {
   number = line.number;
   origin = place_text name line.number;
-  user = flat_map shown_in_user line.user;
+  user = user_text line.user;
   when = line.when;
   command = line.command;
 }
@@ -29,7 +32,7 @@ abbrev pub of_user : List ℕ → List ℕ → CommandLine → Gathered
 of_user name user line = record {
   number = line.number;
   origin = place_text name line.number;
-  user = flat_map shown_in_user user;
+  user = user_text user;
   when = line.when;
   command = line.command;
 }

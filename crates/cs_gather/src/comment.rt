@@ -1,21 +1,23 @@
 //! Places as comments.
-ghost use Rattle.std.specs.Prelude.{◌≡◌, ◌<◌, ◌++◌, flat_map, OnOk};
-ghost use Rattle.cs_gather.specs.Gathered.{shown_in_user, place_text};
+ghost use Rattle.std.specs.Prelude.{◌≡◌, ◌<◌, ◌++◌, OnOk};
+ghost use Rattle.cs_gather.specs.Gathered.{place_text, user_text};
 
 use cs_civil::push_number;
-use cs_place::{push_byte, push_hex, push_shown};
+use cs_place::{push_hex, push_shown};
 use std::alloc::{AllocError, Global};
 
-/// Adds the name of a user as one word: as [`push_byte`] does, and `\xNN` for a blank and for each
-/// byte above 127.
-pub(crate) fn push_user(text: &mut Vec<u8>, name: &[u8]) -> Result<(), AllocError>
-    ensures { OnOk result (text.new.items ≡ text.old.items ++ flat_map shown_in_user name.now) }
+/// Adds the name of a user as one word: as [`push_shown`] does, and a blank as `\x20`.
+pub(crate) fn push_user(alloc: Global, text: &mut Vec<u8>, name: &[u8]) -> Result<(), AllocError>
+    ensures { OnOk result (text.new.items ≡ text.old.items ++ user_text name.now) }
 {
-    for byte in name {
-        if *byte == b' ' || *byte > 127 {
-            push_hex(text, *byte)?;
+    let mut shown = Vec::new(alloc);
+    push_shown(&mut shown, name)?;
+    let bytes = shown.as_slice();
+    for byte in bytes {
+        if *byte == b' ' {
+            push_hex(text, b' ')?;
         } else {
-            push_byte(text, *byte)?;
+            text.push(*byte)?;
         }
     }
     Ok(())

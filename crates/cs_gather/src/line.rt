@@ -1,5 +1,5 @@
-ghost use Rattle.std.specs.Prelude.{◌≡◌, IfOk, flat_map};
-ghost use Rattle.cs_gather.specs.Gathered.{place_text, shown_in_user};
+ghost use Rattle.std.specs.Prelude.{◌≡◌, IfOk};
+ghost use Rattle.cs_gather.specs.Gathered.{place_text, user_text};
 
 use crate::comment::{push_place, push_user};
 use cs_civil::Bytes;
@@ -31,7 +31,7 @@ impl Gathered {
         ensures { IfOk result (λ gathered. gathered ≡ record {
           number = number;
           origin = place_text name.now number;
-          user = flat_map shown_in_user user.now;
+          user = user_text user.now;
           when = when.now;
           command = command.now;
         }) }
@@ -39,7 +39,7 @@ impl Gathered {
         let mut origin = Vec::new(alloc);
         push_place(alloc, &mut origin, name, number)?;
         let mut owner = Vec::new(alloc);
-        push_user(&mut owner, user)?;
+        push_user(alloc, &mut owner, user)?;
         Ok(Gathered {
             number,
             origin: Bytes::from_vec(origin),

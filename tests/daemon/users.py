@@ -51,6 +51,8 @@ def users_of_a_gathered_table(room):
     output = {int(it.rpartition("-")[2]): text for it, text in room.read("out").items()}
     wanted("first command of joe", TEXTS["first of joe"], output[numbers[0]] + "\n")
     wanted("second command of joe", TEXTS["second of joe"], output[numbers[1]])
+    told, _, rest = output[numbers[6]].partition("\n")
+    wanted("command without its home", (True, "next\n/\n"), ("/no/such" in told, rest))
     wanted("command of root", "root\nin a session of runuser\n", output[numbers[7]])
     everything = room.read("said") + room.read("printed") + "".join(output.values())
     wanted("libraries that root loaded", 0, everything.count("loaded by 0"))

@@ -46,9 +46,10 @@ setsid = codes "/usr/bin/setsid"
 abbrev pub runuser : List ℕ
 runuser = codes "/sbin/runuser"
 
--- env(1) sets the lines of CRONSAFE_SETTINGS, nothing else, and becomes the words that follow
+-- The user's own shell goes to the folder, or stays where it is if it may not. Then env(1) sets the
+-- lines of CRONSAFE_SETTINGS, nothing else, and becomes the words that follow.
 abbrev pub change : List ℕ
-change = codes "set -f; IFS='\n'; exec env -i $CRONSAFE_SETTINGS \"$@\""
+change = codes "cd -- \"$CRONSAFE_FOLDER\"; set -f; IFS='\n'; exec env -i $CRONSAFE_SETTINGS \"$@\""
 
 abbrev pub user_words : List ℕ → List ℕ → List ℕ → List (List ℕ)
 user_words user shell text = runuser ∷ codes "-u" ∷ user ∷ codes "--" ∷ codes "/bin/sh"
@@ -68,10 +69,10 @@ abbrev pub settings_text : List Variable → List ℕ
 settings_text settings = flat_map setting_line settings
 
 -- what runs as root sees this: no setting of the user's is a variable of its own
-abbrev pub handed : List Variable → Home → List Variable
-handed env home = usual_path
+abbrev pub handed : List Variable → Home → List ℕ → List Variable
+handed env home folder = usual_path
     ∷ (codes "CRONSAFE_SETTINGS", settings_text (usual_path ∷ (usual_settings (Some home) ++ env)))
-    ∷ []
+    ∷ (codes "CRONSAFE_FOLDER", folder) ∷ []
 
 -- timeout(1) runs in the new session: from outside, its signals wouldn't reach all in there
 pub record IsAsUser {A : Type 0} (left : Option ℕ) (command : List ℕ) (env : List Variable)
@@ -82,6 +83,7 @@ pub record IsAsUser {A : Type 0} (left : Option ℕ) (command : List ℕ) (env :
       × (has_equals shell ≡ false)
       × (command_args started ≡ limited left ++ user_words home.user shell command)
   pub clears : clears_env started ≡ true
-  pub variables : (name : List ℕ)
-      → command_var started name ≡ option_map Some (value_of (handed env home) name)
-  pub folder : command_dir started ≡ folder_of env (Some home)
+  pub variables : (folder : List ℕ) × (folder_of env (Some home) ≡ Some folder)
+      × ((name : List ℕ)
+      → command_var started name ≡ option_map Some (value_of (handed env home folder) name))
+  pub folder : command_dir started ≡ Some (codes "/")

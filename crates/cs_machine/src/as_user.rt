@@ -1,4 +1,4 @@
-ghost use Rattle.std.specs.Prelude.{◌≡◌, ◌↔◌, ◌++◌, ◌∷◌, None, ℕ, List, Some, IfErr, IfOk, IfSome};
+ghost use Rattle.std.specs.Prelude.{◌≡◌, ◌↔◌, ◌++◌, ◌∷◌, None, codes, ℕ, List, Some, IfErr, IfOk, IfSome};
 ghost use Rattle.std.specs.Prelude.{IsSome, OnOk, false, map, option_map, true};
 ghost use Rattle.std.specs.Process.{command_program, command_args, command_var, command_dir};
 ghost use Rattle.std.specs.Process.{clears_env, SameDir, SameEnv, SameProgramAndArgs};
@@ -12,7 +12,7 @@ ghost use Rattle.cs_machine.specs.declared.shell.CommandFault.TheVariants.{NotTe
 
 use crate::home::Home;
 use crate::limit::add_limited;
-use crate::shell::{CommandFault, USUAL_SHELL, are_texts, set, set_folder, shell_in, shell_of};
+use crate::shell::{CommandFault, USUAL_SHELL, are_texts, set, shell_in, shell_of, value_after};
 use cs_civil::Bytes;
 use std::alloc::{AllocError, Global};
 use std::process::Command;
@@ -24,7 +24,8 @@ const SETSID: &str = "/usr/bin/setsid";
 const RUNUSER: &str = "/sbin/runuser";
 
 /// What the user's own shell does first.
-const CHANGE: &str = "set -f; IFS='\n'; exec env -i $CRONSAFE_SETTINGS \"$@\"";
+const CHANGE: &str =
+    "cd -- \"$CRONSAFE_FOLDER\"; set -f; IFS='\n'; exec env -i $CRONSAFE_SETTINGS \"$@\"";
 
 /// Unless a setting says otherwise.
 const PATH: &str = "/usr/bin:/bin";
@@ -67,7 +68,7 @@ pub(crate) fn add_words(started: &mut Command, words: &[&str]) -> Result<(), All
     Ok(())
 }
 
-/// Without its variables and its folder.
+/// Without its variables.
 fn words_for(
     alloc: Global,
     user: &str,
@@ -80,7 +81,7 @@ fn words_for(
         ≡ limited left ++ user_words user.now shell.now command.now) }
     ensures clears { IfOk result (λ c. clears_env c ≡ true) }
     ensures variables { IfOk result (λ c. (name : List ℕ) → command_var c name ≡ None) }
-    ensures folder { IfOk result (λ c. command_dir c ≡ None) }
+    ensures folder { IfOk result (λ c. command_dir c ≡ Some (codes "/")) }
 {
     let mut started = Command::new(alloc, SETSID)?;
     add_limited(alloc, &mut started, left)?;
@@ -91,21 +92,29 @@ fn words_for(
         ],
     )?;
     started.env_clear();
+    started.current_dir("/")?;
     Ok(started)
 }
 
 /// None if memory runs out, or a setting isn't UTF-8.
-fn hand(started: &mut Command, alloc: Global, env: &[(Bytes, Bytes)], home: &Home) -> Option<()>
+fn hand(
+    started: &mut Command,
+    alloc: Global,
+    env: &[(Bytes, Bytes)],
+    home: &Home,
+    folder: &[u8],
+) -> Option<()>
     requires { (name : List ℕ) → command_var started.old name ≡ None }
     ensures variables { IsSome result → (name : List ℕ) → command_var started.new name
-        ≡ option_map Some (value_of (handed env.now home.now) name) }
+        ≡ option_map Some (value_of (handed env.now home.now folder.now) name) }
     ensures words { IsSome result → SameProgramAndArgs started.old started.new }
     ensures clears { IsSome result → clears_env started.new ≡ clears_env started.old }
     ensures folder { IsSome result → SameDir started.old started.new }
 {
     let settings = settings_of(alloc, env, home).ok()?;
     set(started, b"PATH", PATH.as_bytes())?;
-    set(started, b"CRONSAFE_SETTINGS", settings.as_slice())
+    set(started, b"CRONSAFE_SETTINGS", settings.as_slice())?;
+    set(started, b"CRONSAFE_FOLDER", folder)
 }
 
 /// None if memory runs out: the texts are UTF-8.
@@ -123,8 +132,8 @@ fn command_as(
     let user = str::from_utf8(home.user.as_slice()).ok()?;
     let command = str::from_utf8(command).ok()?;
     let mut started = words_for(alloc, user, shell_of(env)?, command, left).ok()?;
-    hand(&mut started, alloc, env, home)?;
-    set_folder(&mut started, env, Some(home))?;
+    let folder = value_after(b"HOME", home.folder.as_slice(), env);
+    hand(&mut started, alloc, env, home, folder)?;
     Some(started)
 }
 

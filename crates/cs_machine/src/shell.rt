@@ -167,11 +167,7 @@ fn set_user(shell: &mut Command, home: Option<&Home>) -> Option<()>
     set(shell, b"USER".as_slice(), home.user.as_slice())
 }
 
-pub(crate) fn set_folder(
-    shell: &mut Command,
-    env: &[(Bytes, Bytes)],
-    home: Option<&Home>,
-) -> Option<()>
+fn set_folder(shell: &mut Command, env: &[(Bytes, Bytes)], home: Option<&Home>) -> Option<()>
     requires { command_dir shell.old ≡ None }
     ensures folder { IsSome result
         → command_dir shell.new ≡ folder_of env.now (option_copied home.entry) }
@@ -219,7 +215,7 @@ pub(crate) fn shell_of(env: &[(Bytes, Bytes)]) -> Option<&str>
     str::from_utf8(shell_in(env)).ok()
 }
 
-fn value_after<'v>(name: &[u8], usual: &'v [u8], env: &'v [(Bytes, Bytes)]) -> &'v [u8]
+pub(crate) fn value_after<'v>(name: &[u8], usual: &'v [u8], env: &'v [(Bytes, Bytes)]) -> &'v [u8]
     ensures { Some result.now ≡ fold (value_with name.now) (Some usual.now) env.now }
 {
     let mut last = usual;

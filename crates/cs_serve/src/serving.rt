@@ -129,7 +129,7 @@ fn serve_by<
     err: &mut E,
 ) -> (Status, Cause, Option<Minute>)
     requires { vec_len runners ≡ (plan_in checked).capacity }
-    ensures served { IsServedBy checked owners
+    ensures { (s : IsServedBy checked owners
         (record {
           last = C.last clock.old;
           top = C.top clock.old;
@@ -146,8 +146,7 @@ fn serve_by<
         })
         (sink (E.contents err.old) (E.failed err.old))
         (sink (E.contents err.new) (E.failed err.new))
-        (status_of result.0) }
-    ensures cause { status_of result.0 ≡ cause_status result.1 }
+        (status_of result.0)) × (result.1 ≡ s.end.cause) × (result.2 ≡ s.end.rest) }
 {
     let end = run_daemon(
         rt, alloc, checked, owners, clock, runners, &OpenGate, store, log,
@@ -192,7 +191,7 @@ fn open_next<R: Clock + Wait, W: Write>(
     hand: &mut Hand<'_, '_, R, W>,
     clock: &mut MachineClock<'_, R, Idle>,
 )
-    ensures { IfSome rest (λ minute. clock.new.latest ≡ Some minute) }
+    ensures { IfSome rest (λ minute. clock.new ≡ record clock.old { latest = Some minute }) }
 {
     match rest {
         Some(minute) => clock.set_to(minute),
@@ -212,7 +211,7 @@ fn next_of<'a, R: Clock + Wait, W: Write>(
 ) -> Option<Next<'a, R>>
     ensures next { IfSome result (λ next. IsNextOf cause (asked_run words.entry.now) next.order) }
     ensures opens { IfSome result (λ next. IfSome rest
-        (λ minute. next.clock.latest ≡ Some minute)) }
+        (λ minute. next.clock ≡ record clock.entry { latest = Some minute })) }
 {
     let accepted = accepted?;
     if cause != Cause::Stopped {
@@ -532,7 +531,7 @@ pub fn serve<
         (sink (E.contents err.new) (E.failed err.new))
         (status_of result) }
 {
-    let Ok(mut files) = DaemonFiles::of(alloc, order.words.stamps) else {
+    let Some(mut files) = DaemonFiles::of(alloc, order.words.stamps) else {
         return run_out_unserved(order, err);
     };
     if order.words.home && Home::of_process(rt, alloc).is_none() {

@@ -28,13 +28,21 @@ pub(crate) struct DaemonFiles<'f> {
 }
 
 impl<'f> DaemonFiles<'f> {
-    pub(crate) fn of(alloc: Global, folder: &'f str) -> Result<DaemonFiles<'f>, AllocError> {
-        Ok(DaemonFiles {
-            stop: RequestFile::to_stop(alloc, folder)?,
-            reload: RequestFile::to_reload(alloc, folder)?,
-            drain: RequestFile::to_drain(alloc, folder)?,
-            answer: ToldFile::answer(alloc, folder)?,
-            state: ToldFile::state(alloc, folder)?,
+    pub(crate) fn of(alloc: Global, folder: &'f str) -> Option<DaemonFiles<'f>> {
+        let (stop, reload) = (
+            RequestFile::to_stop(alloc, folder).ok(),
+            RequestFile::to_reload(alloc, folder).ok(),
+        );
+        let drain = RequestFile::to_drain(alloc, folder).ok();
+        let answer = ToldFile::answer(alloc, folder).ok();
+        let told = answer.zip(ToldFile::state(alloc, folder).ok());
+        let (((stop, reload), drain), (answer, state)) = stop.zip(reload).zip(drain).zip(told)?;
+        Some(DaemonFiles {
+            stop,
+            reload,
+            drain,
+            answer,
+            state,
             lock: None,
         })
     }

@@ -999,6 +999,24 @@ def many_at_once(room):
         raise Fault(f"only {sum(starts)} of the first 64 lines tell of a start")
 
 
+def demanding_runs(room):
+    """Runs that print megabytes, close their streams, ignore TERM and leave processes, of a daemon
+    with 24 descriptors. For one that loses output, or has none left for a run.
+    """
+    due, numbers = early_minute() + 1, (1, 2, 3, 4)
+    commands = ("head -c 3000000 /dev/zero", "exec <&- >&- 2>&-; sleep 2")
+    commands += ('trap "" TERM; kill $$; sleep 1; echo on', "sleep 3 & sleep 3 & echo left")
+    room.take(declared(4, numbers), "".join(f"{due_at(due)} {it}\n" for it in commands))
+    (room.folder / "out").mkdir()
+    words = room.words("--log", "log", "--output", "out")
+    room.start(["sh", "-c", 'ulimit -n 24; exec "$@"', "sh", *words])
+    ends = [f" ended line {it} due {date_text(due)} status 0 " for it in numbers]
+    room.wait_for_logged(*ends, seconds=2 * MINUTE)
+    room.stop()
+    output = {int(name.rpartition("-")[2]): len(text) for name, text in room.read("out").items()}
+    wanted("sizes of outputs", dict(zip(numbers, (3_000_000, 0, 3, 5))), output)
+
+
 def killed_anywhere(room):
     """Daemons that are killed a moment after their start, and what one does that comes next."""
     take_job(room, "echo a >>ran")

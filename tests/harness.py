@@ -37,6 +37,8 @@ NO_CONFLICT = (
 FAULT = re.compile(rb"cronsafe: (?:(?!script line ).+ line (\d+)|declarations): (\d+ [A-Z]\w+.*)")
 HINT = re.compile(rb"cronsafe: (the table reads as|the longest time is|--from is)")
 SHOWN = re.compile(rb"(.+?):(\d+):(\d+): fault: (.+)")
+# Characters of UTF-8 that a terminal obeys, that end a line or that turn the direction of a text.
+OBEYED = rb"\xc2[\x80-\x9f]|\xd8\x9c|\xe2\x80[\x8e\x8f\xa8-\xae]|\xe2\x81[\xa6-\xa9]"
 NAME = os.path.relpath(os.path.realpath(sys.argv[0]), TOP)
 
 
@@ -130,7 +132,7 @@ def is_shown(place, lines, text):
     """Returns whether a line of a text is shown as it stands there, with a mark at the place."""
     number, column = int(place[2]), int(place[3])
     line = [*text.split(b"\n"), b""][number - 1]
-    plain = re.sub(rb"[\x00-\x08\x0a-\x1f\x7f]", b"?", line)
+    plain = re.sub(rb"[\x00-\x08\x0a-\x1f\x7f]|" + OBEYED, b"?", line)
     if len(line) > 160 or column > 100:
         return lines[0].removeprefix(b"...").removesuffix(b"...") in plain
     front = re.sub(rb"[^\t]", b" ", re.sub(rb"[\x80-\xbf]", b"", line[: column - 1]))

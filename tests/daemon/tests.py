@@ -14,7 +14,7 @@ from concurrent.futures import ThreadPoolExecutor
 from contextlib import contextmanager
 from pathlib import Path
 
-from harness import Fault, wanted, without_shown
+from harness import NO_CONFLICT, Fault, wanted, without_shown
 
 import failures
 from daemon import SOON, UNUSED, WAITED, date_text, early_minute, minute_now, minute_of
@@ -31,6 +31,7 @@ HELD = f"{UNTIL.format('done')}; echo x >>ran"
 # a job of an anacrontab that says that it ran
 ONE_JOB = "7 0 a echo x >>ran\n"
 ONCE = ("--minutes", "0")
+OVER = "the minutes of --minutes are over"
 NO_COUNTS = "skipped 0, overruns 0, not started 0, outages 0, stamps not written 0, missed 0"
 TEXTS = sections_of("tables")
 
@@ -436,9 +437,9 @@ def refused_reload(room):
     fault = "cronsafe: declarations: 20 OtherParts at cron 1\n"
     check = ("check", "crontab", "declarations", "certificate")
     room.take_tables(declared(4, (1, 2), line2={"max": 60}), table.replace("old", "new"))
-    stale = TEXTS["note beside the refusal"]
-    wanted("check", (1, refusal, stale), room.call(*check))
-    wanted("reload", (1, "", stale + refusal), room.reload())
+    notes = TEXTS["note beside the refusal"]
+    wanted("check", (1, refusal, notes), room.call(*check))
+    wanted("reload", (1, "", notes + refusal), room.reload())
     room.take_tables(json.loads(TEXTS["other parts"]), TEXTS["gathered table"])
     wanted("check of other parts", (3, "", fault), room.call(*check))
     wanted("reload of other parts", (3, "", fault), room.reload())
@@ -450,7 +451,8 @@ def refused_reload(room):
     log = without_shown(log, lambda it: room.read(it.decode()).encode(), True).decode()
     log = re.sub("(?m)^(?:started|ended|overrun) .*\n", "", log)
     told = ["asked to reload", "reload refused, the old plan goes on"]
-    told = [*job_lines(table), *told, *(stale + refusal).splitlines(), *told, fault.strip()]
+    notes = NO_CONFLICT.decode() + notes
+    told = [*job_lines(table), *told, *(notes + refusal).splitlines(), *told, fault.strip()]
     told += ["asked to stop", "stopped"]
     wanted("log", "\n".join(told), log)
 
@@ -641,14 +643,14 @@ def timed_log(room):
     wanted("order of times", sorted(times), times)
     wanted("times", True, before <= times[0] and times[-1] <= time.time())
     opening = "running crontab with declarations and certificate and anacrontab, stamps in stamps"
-    seconds = times[5] - times[4]
+    seconds = times[6] - times[4]
     wanted("seconds", True, 3 <= seconds <= 3 + SOON)
-    events = [f"started {run}", f"ended {run} status 4 after {seconds} s", "stopped"]
+    events = [f"started {run}", OVER, f"ended {run} status 4 after {seconds} s", "stopped"]
     wanted("log", [f"{opening}, capacity 1", *room.digests(), *events], texts)
     (room.folder / "stamps/a").unlink()
     room.run(*ONCE, "--log", "-", seconds=SOON)
     _, texts = moments_and_texts(it for it in room.read("printed").splitlines() if it != "printed")
-    kinds = "running table declarations certificate started ended stopped".split()
+    kinds = "running table declarations certificate started the ended stopped".split()
     wanted("kinds of lines", kinds, [it.split()[0] for it in texts])
 
 
@@ -917,7 +919,7 @@ def closed_streams(room):
         room.start(["sh", "-c", f'exec "$@" {closed}', "sh", *words])
         room.ends(0)
         room.holds(stamps={"a": stamp_text(minute)})
-        wanted("log", 7, len(room.texts()))
+        wanted("log", 8, len(room.texts()))
         files = [it.split(" -> ")[1] for it in room.read("fds").splitlines() if " -> " in it]
         for stream, what in enumerate(streams):
             if what in closed.split():
@@ -1092,7 +1094,7 @@ def job_not_started(room):
     anacrontab += b"SHELL = /bin/sh\n1 0 b echo \xff >>ran\n1 0 c echo c >>ran\n"
     room.take(declared(1, [], "abc"), "", anacrontab)
     day = early_minute()
-    room.run("--minutes", "0", seconds=2 * MINUTE)
+    room.run("--minutes", "1", seconds=3 * MINUTE)
     names = [f"job {it} at {date_text(day)}" for it in "abc"]
     lost = [f"{word} {it}" for it in names[:2] for word in ("started", "not started")]
     stamps = dict.fromkeys("abc", stamp_text(day))
@@ -1104,7 +1106,7 @@ def job_not_started(room):
     first = early_minute()
     lost, kept = (f"job {it} at {date_text(first)}" for it in "ac")
     (room.folder / "out" / output_name(first, "job-c")).mkdir(parents=True)
-    room.run("--minutes", "0", "--log", "log", "--output", "out", seconds=2 * MINUTE)
+    room.run("--minutes", "1", "--log", "log", "--output", "out", seconds=3 * MINUTE)
     texts = room.texts()
     at = texts.index(f"{lost}: {reason}")
     wanted("the line behind the reason", f"not started {lost}", texts[at + 1])

@@ -21,6 +21,12 @@ WHYS = {3: "'nobody-here': it isn't in /etc/passwd"}
 WHYS |= {4: "'gone': the account has expired", 5: "'last': the account has expired"}
 
 
+def as_root(words):
+    """Returns words that start others as root, with the users of a room."""
+    own = [] if os.geteuid() == 0 else ["--map-root-user", "--map-auto"]
+    return ["unshare", "--mount", *own, "sh", "-c", BIND, "sh", *words]
+
+
 def start_as_root(room, *options, **variables):
     """Starts a daemon with these users: of three the account expires yesterday, today and tomorrow."""
     today = int(time.time()) // DAY
@@ -30,10 +36,9 @@ def start_as_root(room, *options, **variables):
         room.write(name, TEXTS[name])
     library = ["-shared", "-fPIC", "-o", "loaded.so", "loaded.c"]
     subprocess.run([os.environ.get("CC", "cc"), *library], cwd=room.folder, check=True)
-    own = [] if os.geteuid() == 0 else ["--map-root-user", "--map-auto"]
     (room.folder / "out").mkdir()
     words = room.words("--log", "log", "--output", "out", *options)
-    room.start(["unshare", "--mount", *own, "sh", "-c", BIND, "sh", *words], **variables)
+    room.start(as_root(words), **variables)
 
 
 def users_of_a_gathered_table(room):
@@ -52,7 +57,7 @@ def users_of_a_gathered_table(room):
     wanted("first command of joe", TEXTS["first of joe"], output[numbers[0]] + "\n")
     wanted("second command of joe", TEXTS["second of joe"], output[numbers[1]])
     told, _, rest = output[numbers[6]].partition("\n")
-    wanted("command without its home", (True, "next\n/\n"), ("/no/such" in told, rest))
+    wanted("command without its home", (True, "next\n/\n"), ("/no/such" in told, rest[:7]))
     wanted("command of root", "root\nin a session of runuser\n", output[numbers[7]])
     everything = room.read("said") + room.read("printed") + "".join(output.values())
     wanted("libraries that root loaded", 0, everything.count("loaded by 0"))

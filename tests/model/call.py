@@ -8,7 +8,7 @@ import re
 from collections import namedtuple
 from itertools import takewhile
 
-from harness import NO_CONFLICT
+from harness import NO_CONFLICT, OBEYED
 from model import calendar, certificate, crontab, rules, script
 from model.anacrontab import read_anacrontab
 from model.calendar import DAY
@@ -44,11 +44,7 @@ UNREAD = re.compile(
 )
 # Outputs that aren't told are none, and so is a status.
 Answer = namedtuple("Answer", "status out err")
-
-# Bytes and characters of UTF-8 that a terminal obeys, that end a line or turn the text's direction.
-HARMFUL = re.compile(
-    rb"[\x00-\x1f\x7f\\]|\xc2[\x80-\x9f]|\xd8\x9c|\xe2\x80[\x8e\x8f\xa8-\xae]|\xe2\x81[\xa6-\xa9]"
-)
+HARMFUL = re.compile(rb"[\x00-\x1f\x7f\\]|" + OBEYED)
 
 
 def shown(text):

@@ -288,6 +288,22 @@ def reloads_at_once(room):
     room.stop()
 
 
+def moved_log(room):
+    """A log that is moved, as logrotate(8) does, and one that is removed, with `reload` after each. For
+    lines that are lost, or that go on into the old file.
+    """
+    begin(room, "--log", "log")
+    for way in lambda log: log.rename(room.folder / "old"), Path.unlink:
+        way(room.folder / "log")
+        wanted("reload", 0, room.reload()[0])
+        room.wait_for_file("log")
+        room.wait_for_logged(" running ")
+    old = [it.partition(" ")[2] for it in room.read("old").splitlines()]
+    wanted("last line of the old log", "stopped", old[-1])
+    room.stop()
+    wanted("last lines of the log", ["asked to stop", "stopped"], room.texts()[-2:])
+
+
 def unwritable_stamps(room):
     """A folder that stands in the place of a stamp file: while `stop` waits, and till it is taken away.
 

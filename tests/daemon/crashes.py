@@ -77,8 +77,9 @@ def killed_with_its_jobs(room):
 
 
 def asked_while_it_waits(room):
-    """`reload`, `stop` and a kill of a daemon that waits. For a list that is lost, or a late stop."""
+    """A check, `reload`, `stop` and a kill of a daemon that waits. For a lost list, or a late stop."""
     _, run, listed, left = killed(room, signal.SIGKILL)
+    wanted("a check alone", (0, "", ""), room.ask(*room.words("--check-only")[1:]))
     for is_killed in (False, True):
         room.start(room.words())
         room.wait_for_line(f"still running {left}")

@@ -97,7 +97,7 @@ class Room:
         """Returns the text of a file, '' for none, or of each in a folder but a daemon's own."""
         path = self.folder / name
         if path.is_dir():
-            own = ("cronsafe state", "cronsafe lock", "cronsafe runs")
+            own = tuple(f"cronsafe {it}" for it in ("accepted", "lock", "runs", "state"))
             inside = (it for it in path.iterdir() if not it.name.startswith(own))
             return {it.name: self.read(it) for it in inside}
         return without_note(path.read_text("utf-8", "replace")) if path.is_file() else ""
@@ -131,9 +131,9 @@ class Room:
         """Returns status, standard output and standard error of a call that ends at once."""
         return self.ask(*words, *self.options)
 
-    def ask(self, *words):
+    def ask(self, *words, **how):
         """Returns the same of a call that has no tables."""
-        status, *sides = called(self.program, words, self.folder, seconds=SECONDS)
+        status, *sides = called(self.program, words, self.folder, seconds=SECONDS, **how)
         return status, *(without_note(it.decode("utf-8", "replace")) for it in sides)
 
     def reload(self):

@@ -43,7 +43,7 @@ def seconds_given(room, how="-k 5"):
 def look_at_count(room, number):
     """Waits until `status` says that so many runs were ended at their limit."""
     line = f"{NO_COUNTS}, ended at their limit {number}"
-    wanted("counts", line, state_of(room, line)[-1])
+    wanted("counts", 1, state_of(room, line, status=1).count(line))
     wanted("member of --json", number, room.state()["ended_at_limit"])
 
 

@@ -51,10 +51,17 @@ def declared(capacity, lines=(), identifiers=(), groups=(), offset=0, left_out=(
     }
 
 
+def program_of(command):
+    """Returns what a job is called if its entry doesn't say so."""
+    return re.split("[ \t]", command)[0].rpartition("/")[2]
+
+
 def job_lines(table):
-    """Returns the lines of a log that list the commands of a crontab."""
+    """Returns the lines of a log that list the commands of a crontab, and what these are called."""
     lines = [(at, it.split(None, 5)) for at, it in enumerate(table.splitlines(), 1)]
-    return [f"job line {at}: {words[5]}" for at, words in lines if len(words) == 6]
+    lines = [(at, words[5]) for at, words in lines if len(words) == 6]
+    texts = ((f"job line {at}: {it}", f"called line {at}: {program_of(it)}") for at, it in lines)
+    return [it for both in texts for it in both]
 
 
 def take_job(room, command="echo x >>ran", **terms):
@@ -609,30 +616,6 @@ def reloaded_by_draining(room):
     wanted("gaps", (0, 1), (log.count("outage"), log.count("no plan after")))
 
 
-def called_hooks(room):
-    """Runs that fail or are killed, and one that is late, by a clock of steps, with hooks."""
-    minute = minute_now() + 3
-    at = due_at(minute)
-    table = f"{at} sleep 2\n{due_at(minute + 600)} :\n{at} exit 3\n{at} kill -9 $$\n"
-    terms, long = {"group": "g", "max": 1}, {"max": 500}
-    terms = {"line1": terms, "line2": terms, "line3": long, "line4": long}
-    room.take(declared(4, [1, 2, 3, 4], groups=["g"], **terms), table)
-    tell = 'echo "$CRONSAFE_EVENT $CRONSAFE_RUN'
-    hooks = ("--on-overrun", f'{tell} $CRONSAFE_MAY_MEET" >>told; sleep 60')
-    hooks += ("--on-failure", f'{tell} $CRONSAFE_STATUS" >>told; sleep 60')
-    room.step("--log", "log", *hooks, seconds=6)
-    late, failed, killed = (f"line {it} due {date_text(minute)}" for it in (1, 3, 4))
-    room.wait_for("calls", lambda: room.read("told").count("\n") == 3)
-    room.stop()
-    calls = [f"failure {failed} 3", f"failure {killed} signal 9", f"overrun {late} line 1, line 2"]
-    wanted("calls", calls, sorted(room.read("told").splitlines()))
-    texts = room.texts()
-    wanted("lines of calls", 3, sum(it.startswith("outside of the plan: started echo") for it in texts))
-    wanted("who may meet", True, f"{late} may meet line 1, line 2" in texts)
-    ends = [it for it in texts if re.fullmatch(f"ended {killed} signal 9 after \\d+ s", it)]
-    wanted("ends by a signal", 1, len(ends))
-
-
 def own_home(room):
     """Commands with `--home`, with and without a HOME of the table."""
     user = pwd.getpwuid(os.geteuid())
@@ -685,7 +668,7 @@ def state_of(room, line, status=0):
 
 def compact(state):
     """Returns the line of a state: compact JSON, its members in their order."""
-    return json.dumps(state, separators=(",", ":")) + "\n"
+    return json.dumps(state, separators=(",", ":"), ensure_ascii=False) + "\n"
 
 
 def written_state(room, is_it, seconds=SOON):
@@ -719,12 +702,13 @@ def told_state(room):
     wanted("until", started[2], moment_text(times[1] + MAX * MINUTE))
     wanted("order of times", sorted([before, *times, after]), [before, *times, after])
     files = "crontab with declarations and certificate and anacrontab, capacity 1"
-    wanted("lines", [files, NO_COUNTS], [lines[1], *lines[3:]])
+    last = f"job a: last {started[1]}"
+    wanted("lines", [files, NO_COUNTS, last], [lines[1], *lines[3:]])
     status, out, err = room.ask("status", "stamps", "--json")
     wanted("end of --json", (0, ""), (status, err))
     told = {"VERSION": room.call("--version")[1].split()[1], "AT": json.loads(out)["at"], "RUN": run}
     told |= {"SINCE": head[1], "STARTED": started[1], "UNTIL": started[2]}
-    told["DIGEST"] = room.digests()[-1].split()[-1]
+    told |= {"DIGEST": room.digests()[-1].split()[-1], "COMMAND": HELD}
     right = re.sub("[A-Z]{2,}", lambda it: told[it[0]], TEXTS["state of a run"])
     wanted("text of --json", right, out)
     room.stop_now()
@@ -732,7 +716,9 @@ def told_state(room):
     wanted("lines while it stops", [files, "nothing more is started"], lines[1:3])
     room.write("done", "")
     room.ends(0)
-    wanted("lines of the last state", [*lines[1:3], NO_COUNTS], room.look_at_nobody()[1:])
+    *left, ended = room.look_at_nobody()[1:]
+    wanted("lines of the last state", [*lines[1:3], NO_COUNTS], left)
+    wanted("the job", True, bool(re.fullmatch(f"{last}, status 0 after \\d+ s", ended)))
 
 
 def late_run(room):
@@ -750,7 +736,7 @@ def late_run(room):
     room.write("done", "")
     room.wait_for_line(f"ended {run} status 0")
     room.wait_for_file("stamps/a")
-    wanted("lines", 3, len(state_of(room, "skipped 0, overruns 1,")))
+    wanted("lines", 4, len(state_of(room, "skipped 0, overruns 1,")))
     begun = room.state()["since"]
     wanted("reload", (0, "", ""), room.reload())
     wanted("overruns", 1, written_state(room, lambda it: it["since"] != begun)["overruns"])
@@ -765,9 +751,10 @@ def late_run_that_meets(room):
     table = f"{due_at(due)} {UNTIL.format('done')}\n{due_at(due + 2)} sleep 9\n"
     terms = {"group": "g", "max": 1}
     room.take(declared(1, (1, 2), groups=["g"], line1=terms, line2=terms), table)
-    room.start(room.words("--log", "log"))
+    hook = 'echo "$CRONSAFE_EVENT, $CRONSAFE_RUN, $CRONSAFE_MAY_MEET" >>told; sleep 600'
+    room.start(room.words("--log", "log", "--on-overrun", hook))
     first = f"line 1 due {date_text(due)}"
-    room.wait_for_logged(f"overrun {first}", seconds=4 * MINUTE)
+    room.wait_for_logged(f"overrun {first}", f"started {hook}", seconds=4 * MINUTE)
     told = written_state(room, lambda it: [one["late"] for one in it["running"]] == [True])
     (run,), meets = told["running"], "line 1, line 2"
     until = moment_text(seconds_of(run["since"]) + MINUTE)
@@ -786,6 +773,7 @@ def late_run_that_meets(room):
     room.wait_for_logged(f"ended {first}")
     room.end()
     texts = room.texts()
+    wanted("the call", f"overrun, {first}, {meets}\n", room.read("told"))
     wanted("behind it", f"{first} may meet {meets}", texts[texts.index(f"overrun {first}") + 1])
     wanted("lines of what meets", 1, sum(" may meet " in it for it in texts))
 
@@ -803,7 +791,7 @@ def states_by_hand(room):
     run = {"run": "job a\\x1b at 2024-09-13 23:30", "since": "2024-09-13T23:30:01Z"}
     old = "cronsafe: no state of the last two minutes in stamps\n"
     with locked(room):
-        for members, status, told in STATES:
+        for members, status, told, *jobs in STATES:
             state = {**STATE, "at": 0, **members}
             times = {it: state[it] for it in ("at", "stamp_fault_at") if state[it] is not None}
             state |= {name: moment_text(now + it) for name, it in times.items()}
@@ -818,6 +806,7 @@ def states_by_hand(room):
                 "line 2 due 2024-09-13 23:30 waits",
                 f"next is {state['next_due']}" if state.get("next_due") else "",
                 counts if limits is None else f"{counts}, ended at their limit {limits}",
+                *jobs,
             ]
             out, err = "".join(f"{it}\n" for it in lines if it), old if status == 2 else ""
             text = json.dumps(state)
@@ -862,24 +851,26 @@ def shown_texts(room):
     room.take(declared(2, [4], [name]), table, f"# jobs\nMAILTO = operator\n7 0 {name} true\n")
     early_minute()
     room.run(*ONCE, "--log", "log", seconds=SOON)
-    *texts, started = room.texts()[4:8]
+    *texts, started = room.texts()[4:9]
     lines = [f"MAILTO on line {it} has no effect" for it in ("1 of the crontab", "2 of the anacrontab")]
-    lines += ["job line 4: printf 'a\\x5ctb'\\x09|\\x1b[31m cat"]
+    lines += ["job line 4: printf 'a\\x5ctb'\\x09|\\x1b[31m cat", "called line 4: printf"]
     wanted("lines of MAILTO and of the command", sorted(lines), sorted(texts))
     wanted("the name", "started job a\\x1b[31m\\x0db at", started[: started.index(" at") + 3])
 
 
-def output_name(minute, job):
-    """Returns the name of the file with the output of a run."""
-    return time.strftime(f"%Y-%m-%dT%H:%M-{job}", time.gmtime(MINUTE * minute))
+def output_name(minute, job, name=""):
+    """Returns the name of the file with the output of a run of a job; those of a line are called so."""
+    end = re.sub("[^A-Za-z0-9._-]", "_", f"-{name}".encode()[:61].decode("latin-1")) if name else ""
+    return time.strftime(f"%Y-%m-%dT%H-%M-{job}{end}", time.gmtime(MINUTE * minute))
 
 
 def output_files(room):
     """What jobs print goes into files of their own, of which two of each job are kept."""
     out = room.folder / "out"
     out.mkdir()
-    others = ["2024-01-01T00:00-line-1", "2024-01-01T00:00-job-aa", "2024-01-01T00:00-job-a ", "x-job-a"]
-    old = [f"2024-01-0{it}T00:00-job-a" for it in (1, 2, 3)]
+    others = [f"2024-01-01T00-00-{it}" for it in ("line-1", "line-1-a", "job-aa", "job-a ")]
+    others += ["2024-01-01T00:00-job-a", "x-job-a"]
+    old = [f"2024-01-0{it}T00-00-job-a" for it in (1, 2, 3)]
     for name in (*others, *old):
         room.write(f"out/{name}", name)
     minute, run = take_job(room, "echo told; echo wrong >&2; exit 3")
@@ -898,18 +889,6 @@ def output_files(room):
     run = f"job a at {date_text(minute)}"
     room.holds([f"started {run}", "told", f"ended {run} status 3"])
     wanted("what is said", ("cronsafe: ", "wrong"), (room.read("said")[:10], room.read("said")[-6:-1]))
-
-
-def outputs_of_a_line(room):
-    """Each run of a line of the crontab has a file, by a clock that goes by steps; 30 are kept."""
-    (room.folder / "out").mkdir()
-    room.take(declared(1, [1], line1={"max": 1}), "* * * * * echo x; echo x >>ran\n")
-    room.step("--output", "out", seconds=20)
-    room.wait_for("runs", lambda: len(room.read("ran").split()) > 33)
-    room.stop()
-    due = [minute_of(it) for it in re.findall("ended line 1 due (.+) status 0", room.read("printed"))]
-    newest = {output_name(it, "line-1"): "x\n" for it in sorted(due)[-30:]}
-    wanted("files", newest, room.read("out"))
 
 
 def next_of_a_table(room):
@@ -1031,7 +1010,7 @@ def demanding_runs(room):
     ends = [f" ended line {it} due {date_text(due)} status 0 " for it in numbers]
     room.wait_for_logged(*ends, seconds=2 * MINUTE)
     room.stop()
-    output = {int(name.rpartition("-")[2]): len(text) for name, text in room.read("out").items()}
+    output = {int(name.split("-")[5]): len(text) for name, text in room.read("out").items()}
     wanted("sizes of outputs", dict(zip(numbers, (3_000_000, 0, 3, 5))), output)
 
 

@@ -53,7 +53,7 @@ def users_of_a_gathered_table(room):
     room.stop()
     statuses = {it.split(" after ")[0] for it in room.texts() if "ended " in it}
     wanted("ends", {f"ended {names[at]} status {it}" for at, it in STATUSES.items()}, statuses)
-    output = {int(it.rpartition("-")[2]): text for it, text in room.read("out").items()}
+    output = {int(it.split("-")[5]): text for it, text in room.read("out").items()}
     wanted("first command of joe", TEXTS["first of joe"], output[numbers[0]] + "\n")
     wanted("second command of joe", TEXTS["second of joe"], output[numbers[1]])
     told, _, rest = output[numbers[6]].partition("\n")

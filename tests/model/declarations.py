@@ -28,7 +28,7 @@ LineName = namedtuple("LineName", "number command when")
 # `job` is the name of a line; of an anacron entry an identifier, and `mode` is whether it has one.
 # `guess` is whether max is a draft's guess. `parts` are what a command runs, if that is known; no
 # anacron entry has any.
-Entry = namedtuple("Entry", "job max weight group guess mode parts", defaults=[()])
+Entry = namedtuple("Entry", "job max weight group guess mode parts name", defaults=[(), None])
 Part = namedtuple("Part", "name max")
 # Tables without the lines that are left out, whose numbers rise; the jobs of a plan, of which so
 # many have the default, are those of the crontab first; a member that an object has twice; how many
@@ -119,6 +119,7 @@ def object_of(made, shape):
 
 
 CRON = {**LINE, "mode": (mode, "none"), "parts": (list_of(object_of(Part, PART)), []), **COMMON}
+CRON["name"] = (text, None)
 
 
 def name_in(found):

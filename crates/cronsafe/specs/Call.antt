@@ -1,23 +1,45 @@
 -- The answer to the words of a call.
 use Rattle.std.specs.Prelude.{◌≡◌, ◌⊎◌, ℕ, List, [], Option, Result, Ok, Err}
 use Rattle.clap.specs.Words.{Text}
-use Rattle.cs_args.specs.Asked.{Asking, Check, Day, Help, Judge, Make, Reload, Replay}
+use Rattle.cs_args.specs.Asked.{Apply, AskedApply, Asking, Check, Day, Help, Judge, Make, Reload}
 use Rattle.cs_args.specs.CommandLine.{Asks}
-use Rattle.cs_args.specs.Asked.{Run, Status, Stop}
+use Rattle.cs_args.specs.Asked.{Replay, Run, Status, Stop}
 use Rattle.cs_args.specs.Asked.{asked_reload, asked_replay, asked_run, asked_status, asked_stop}
 use Rattle.cs_args.specs.CommandLine.{AsksHelp, AsksVersion, IsNoCall}
 use Rattle.cs_io.specs.Files.{Failed}
+use Rattle.cs_files.specs.Asked.{FindsPlan}
+use Rattle.cs_files.specs.Response.{Ending}
 use Rattle.cs_files.specs.Trouble.{Trouble, ends}
+use Rattle.cs_files.specs.declared.asked.Planned.{Planned}
 use Rattle.cs_files.specs.Usage.{IsRejected, ShowsHelp, ShowsVersion}
 use Rattle.cs_show.specs.DayAnswer.{AnswersDay, shown}
 use Rattle.cs_show.specs.Replayed.{AnswersReplay, IsReplyTo}
 use Rattle.cs_ruling.specs.Answer.{AnswersRun, EndsAs, IsRuled}
 use Rattle.cs_ruling.specs.Safe.{IsChecked, IsReplyOn}
 use Rattle.cs_ruling.specs.declared.answer.Answer.{Answer}
-use Rattle.cs_ruling.specs.declared.answer.Answer.TheVariants.{Ends, Reloads, Stops, Tells}
+use Rattle.cs_ruling.specs.declared.answer.Answer.TheVariants.{Applies, Ends, Reloads, Stops, Tells}
 use Rattle.cs_cli.specs.Judge.{AnswersJudge, AnswersMake, IsJudged}
+use Rattle.cs_judge.specs.declared.answers.Wanted.TheVariants.{Compact}
 use Rattle.cronsafe.specs.declared.responding.Task.{Task}
 use Rattle.cronsafe.specs.declared.responding.Task.TheVariants as task
+
+-- the certificate of an ending of which this holds is put at a path, for the daemon of this folder
+abbrev pub AppliesAs : Text → Text → (Ending → Type 0) → Answer → Type 0
+AppliesAs certificate stamps P (Applies path folder made) =
+    (path.now ≡ certificate) × (folder.now ≡ stamps) × P made
+AppliesAs certificate stamps P other = ⊥
+
+-- what comes of `apply`: the first fault of a file, or what `make --compact` answers to the plan
+abbrev pub AnswersApply : AskedApply → (List ℕ → Option (List ℕ)) → List ℕ → Failed → Failed → Answer
+    → Type 0
+AnswersApply a files w before failed answer =
+    ((t : Trouble)
+    × FindsPlan files a.judge.table a.judge.anacrontab a.judge.declarations w before failed (Err t)
+    × EndsAs (λ ending. ending ≡ ends [] t) answer)
+    ⊎ ((planned : Planned)
+    × FindsPlan files a.judge.table a.judge.anacrontab a.judge.declarations w before failed
+    (Ok planned)
+    × AppliesAs a.certificate a.stamps (IsJudged Compact planned.plan planned.places) answer)
 
 -- the answer to a subcommand after these warnings; one of the aids is refused
 abbrev pub AnswersAsked : Asking → (List ℕ → Option (List ℕ)) → List ℕ → Failed → Failed → Answer
@@ -30,6 +52,7 @@ AnswersAsked (Stop a) files w before failed = λ answer. (failed ≡ before)
     × ((words : _) × (asked_stop words ≡ a) × (answer ≡ Stops words))
 AnswersAsked (Reload a) files w before failed = λ answer. (failed ≡ before)
     × ((words : _) × (asked_reload words ≡ a) × (answer ≡ Reloads words))
+AnswersAsked (Apply a) files w before failed = AnswersApply a files w before failed
 AnswersAsked (Status a) files w before failed = λ answer. (failed ≡ before)
     × ((words : _) × (asked_status words ≡ a) × (answer ≡ Tells words))
 AnswersAsked (Judge a) files w before failed = EndsAs (AnswersJudge a files w before failed)
@@ -46,6 +69,8 @@ IsReply (task.Run words claimed) = IsRuled (asked_run words) claimed
 IsReply (task.Judge wanted planned) = EndsAs (IsJudged wanted planned.plan planned.places)
 IsReply (task.Stop words) = λ answer. answer ≡ Stops words
 IsReply (task.Reload words) = λ answer. answer ≡ Reloads words
+IsReply (task.Apply certificate stamps planned) =
+    AppliesAs certificate.now stamps.now (IsJudged Compact planned.plan planned.places)
 IsReply (task.Status words) = λ answer. answer ≡ Tells words
 IsReply task.Aid = EndsAs (λ ending. (ending.status ≡ 4) × (ending.out ≡ []))
 

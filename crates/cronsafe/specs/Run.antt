@@ -1,5 +1,5 @@
 -- What a run of the program writes, and its status.
-use Rattle.std.specs.Prelude.{◌⊎◌, ℕ, List, Option}
+use Rattle.std.specs.Prelude.{◌⊎◌, ◌++◌, ℕ, List, Option, codes}
 use Rattle.clap.specs.Words.{Text}
 use Rattle.cs_io.specs.Files.{Failed, Reads}
 use Rattle.cs_ruling.specs.Answer.{IfEnds}
@@ -9,24 +9,28 @@ use Rattle.cs_files.specs.Trouble.{IsHonest}
 use Rattle.cronsafe.specs.Call.{Answers}
 use Rattle.cronsafe.specs.Turn.{WarnsOn}
 use Rattle.cs_files.specs.Asked.{Tells as TellsFirst}
-use Rattle.cs_files.specs.Ending.{Ends, RunsOut, Sink}
+use Rattle.cs_files.specs.Ending.{Ends, RunsOut, Sink, Tries}
+use Rattle.cs_files.specs.Response.{Ending}
 use Rattle.cs_args.specs.Asked.{asked_stop}
+use Rattle.cs_ask.specs.Applying.{Applies}
 use Rattle.cs_ask.specs.Reloading.{Reloads}
-use Rattle.cs_serve.specs.Serve.{Serves}
+use Rattle.cs_serve.specs.Serve.{ServesOrTries}
 use Rattle.cs_ask.specs.Stopping.{Stops}
 use Rattle.cs_ask.specs.Telling.{Tells}
 
--- an ending or an order is carried out, or a daemon is stopped, reads its files again, or shows its
--- state
+-- an ending or an order is carried out, or a daemon is stopped, reads its files again, first with a
+-- new certificate, or shows its state
 abbrev pub CarriesOut : Answer → Sink → Sink → Sink → Sink → ℕ → Type 0
 CarriesOut (answers.Ends ending) out-old out-new err-old err-new status =
     Ends ending out-old out-new err-old err-new status
 CarriesOut (answers.Runs order) out-old out-new err-old err-new status =
-    Serves order out-old out-new err-old err-new status
+    ServesOrTries order out-old out-new err-old err-new status
 CarriesOut (answers.Stops words) out-old out-new err-old err-new status =
     Stops (asked_stop words) out-old out-new err-old err-new status
 CarriesOut (answers.Reloads words) out-old out-new err-old err-new status =
     Reloads words.stamps.now out-old out-new err-old err-new status
+CarriesOut (answers.Applies certificate stamps made) out-old out-new err-old err-new status =
+    Applies certificate.now stamps.now made out-old out-new err-old err-new status
 CarriesOut (answers.Tells words) out-old out-new err-old err-new status =
     Tells words.stamps.now out-old out-new err-old err-new status
 
@@ -46,3 +50,18 @@ Runs words files before failed reads-old reads-new out-old out-new err-old err-n
     × (((answer : Answer)
     × Carries words files w before failed reads-new answer out-old out-new warned err-new status)
     ⊎ RunsOut out-old out-new warned err-new status)) err-old warned
+
+-- a call over these files ends so, whatever warnings are written first
+abbrev pub IsEndingOf : List Text → (List ℕ → Option (List ℕ)) → Failed → Failed → Ending → Type 0
+IsEndingOf words files before failed ending =
+    (w : List ℕ) × Answers words files w before failed (answers.Ends ending)
+
+-- how the files are refused, and that others are run
+abbrev pub replaced_text : Ending → List ℕ
+replaced_text ending =
+    ending.err ++ ending.out ++ codes "cronsafe: the files that were accepted last are run\n"
+
+-- so ends a call over these files, and that is reported
+abbrev pub IsReplaced : List Text → (List ℕ → Option (List ℕ)) → Failed → Failed → Sink → Sink → Type 0
+IsReplaced words files before failed old new = (ending : Ending)
+    × IsEndingOf words files before failed ending × Tries (replaced_text ending) old new

@@ -1,7 +1,7 @@
 -- Which files a call reads, in which order, and the warnings before its answer.
 use Rattle.std.specs.Prelude.{◌≡◌, ◌⊎◌, ℕ, List, [], Option}
 use Rattle.clap.specs.Words.{Text}
-use Rattle.cs_args.specs.Asked.{Asking, Check, Day, Help, Judge, Make, Replay, Run}
+use Rattle.cs_args.specs.Asked.{Apply, Asking, Check, Day, Help, Judge, Make, Replay, Run}
 use Rattle.cs_args.specs.CommandLine.{Asks}
 use Rattle.cs_io.specs.Files.{AreReadInTurn, Failed, Reads}
 use Rattle.cs_files.specs.Asked.{Warns}
@@ -15,6 +15,7 @@ ReadsAsked (Check a) = AreReadInTurn (check_paths a)
 ReadsAsked (Run a) = AreReadInTurn (check_paths a.check)
 ReadsAsked (Judge a) = AreReadInTurn (judge_paths a)
 ReadsAsked (Make a) = AreReadInTurn (judge_paths a.judge)
+ReadsAsked (Apply a) = AreReadInTurn (judge_paths a.judge)
 ReadsAsked other = AreReadInTurn []
 
 -- and so of what the words ask; else nothing is read
@@ -30,6 +31,7 @@ WarnsOf (Check a) files = Warns files a.table a.anacrontab
 WarnsOf (Run a) files = Warns files a.check.table a.check.anacrontab
 WarnsOf (Judge a) files = Warns files a.table a.anacrontab
 WarnsOf (Make a) files = Warns files a.judge.table a.judge.anacrontab
+WarnsOf (Apply a) files = Warns files a.judge.table a.judge.anacrontab
 WarnsOf Help files = λ before old new w. ⊥
 WarnsOf other files = λ before old new w. w ≡ []
 

@@ -33,6 +33,11 @@ pub(crate) enum Task<'a> {
     Judge(Wanted, Planned),
     Stop(StopWords<'a>),
     Reload(ReloadWords<'a>),
+    Apply {
+        certificate: &'a str,
+        stamps: &'a str,
+        planned: Planned,
+    },
     Status(StatusWords<'a>),
     /// A subcommand of the aids.
     Aid,
@@ -82,6 +87,16 @@ fn find_task<'a, I: Inputs, E: Output>(
             let planned = find_plan(alloc, inputs, err, table, jobs, path)?;
             Ok(Task::Judge(wanted_of(words.compact), planned))
         }
+        Request::Apply(words) => {
+            let judge = words.judge;
+            let (table, jobs, path) = (judge.table, judge.anacrontab, judge.declarations);
+            let planned = find_plan(alloc, inputs, err, table, jobs, path)?;
+            Ok(Task::Apply {
+                certificate: words.certificate,
+                stamps: words.stamps,
+                planned,
+            })
+        }
         Request::Stop(words) => Ok(Task::Stop(words)),
         Request::Reload(words) => Ok(Task::Reload(words)),
         Request::Status(words) => Ok(Task::Status(words)),
@@ -119,6 +134,18 @@ fn answer<'a, R: Threads + Sync>(
         Task::Run(words, claimed) => answer_run(rt, alloc, words, claimed),
         Task::Judge(wanted, planned) => {
             Ok(Answer::Ends(answer_judge(rt, alloc, &planned, wanted)?))
+        }
+        Task::Apply {
+            certificate,
+            stamps,
+            planned,
+        } => {
+            let made = answer_judge(rt, alloc, &planned, wanted_of(true))?;
+            Ok(Answer::Applies {
+                certificate,
+                stamps,
+                made,
+            })
         }
         Task::Stop(words) => Ok(Answer::Stops(words)),
         Task::Reload(words) => Ok(Answer::Reloads(words)),

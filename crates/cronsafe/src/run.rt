@@ -7,7 +7,7 @@ ghost use Rattle.cronsafe.specs.Turn.{ReadsInTurn};
 ghost use Rattle.cronsafe.specs.Run.{CarriesOut, Runs};
 
 use crate::responding::respond;
-use cs_ask::{reload, stop, tell_status};
+use cs_ask::{apply, reload, stop, tell_status};
 use cs_device::Runner;
 use cs_files::{Status, finish, run_out};
 use cs_io::{Inputs, Output};
@@ -51,6 +51,11 @@ fn carry_out<
         Answer::Runs(order) => serve(rt, alloc, order, streams, out, err, new_runner),
         Answer::Stops(words) => stop(rt, alloc, words, out, err),
         Answer::Reloads(words) => reload(rt, alloc, words, out, err),
+        Answer::Applies {
+            certificate,
+            stamps,
+            made,
+        } => apply(rt, alloc, certificate, stamps, &made, out, err),
         Answer::Tells(words) => tell_status(rt, alloc, words, out, err),
     }
 }

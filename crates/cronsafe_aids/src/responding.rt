@@ -96,6 +96,7 @@ fn find_task<'a, I: Folders, E: Output>(
         Request::Run(_words) => Ok(Task::Other),
         Request::Stop(_words) => Ok(Task::Other),
         Request::Reload(_words) => Ok(Task::Other),
+        Request::Apply(_words) => Ok(Task::Other),
         Request::Status(_words) => Ok(Task::Other),
         Request::Judge(_words) => Ok(Task::Other),
         Request::Make(_words) => Ok(Task::Other),

@@ -2,6 +2,7 @@
 -- field is.
 use Rattle.std.specs.Prelude.{ℕ, Bool, List, Option, map, option_map}
 use Rattle.cs_args.specs.declared.request.AdviseWords.{AdviseWords}
+use Rattle.cs_args.specs.declared.request.ApplyWords.{ApplyWords}
 use Rattle.cs_args.specs.declared.request.ChartWords.{ChartWords}
 use Rattle.cs_args.specs.declared.request.CheckWords.{CheckWords}
 use Rattle.cs_args.specs.declared.request.DayWords.{DayWords}
@@ -58,6 +59,11 @@ pub record AskedRun : Type 0 where
   pub on_overrun : Option Text
   pub on_failure : Option Text
   pub on_limit : Option Text
+  pub on_success : Option Text
+  pub on_recovered : Option Text
+  pub mail : Option Text
+  pub last_accepted : Bool
+  pub check_only : Bool
 
 pub record AskedStop : Type 0 where
   pub stamps : Text
@@ -70,11 +76,17 @@ pub record AskedReload : Type 0 where
 pub record AskedStatus : Type 0 where
   pub stamps : Text
   pub json : Bool
+  pub metrics : Bool
 
 pub record AskedJudge : Type 0 where
   pub table : Text
   pub declarations : Text
   pub anacrontab : Option Text
+
+pub record AskedApply : Type 0 where
+  pub judge : AskedJudge
+  pub certificate : Text
+  pub stamps : Text
 
 pub record AskedMake : Type 0 where
   pub judge : AskedJudge
@@ -125,6 +137,7 @@ pub data Asking : Type 0 where
   Run : AskedRun → Asking
   Stop : AskedStop → Asking
   Reload : AskedReload → Asking
+  Apply : AskedApply → Asking
   Status : AskedStatus → Asking
   Judge : AskedJudge → Asking
   Make : AskedMake → Asking
@@ -181,6 +194,11 @@ asked_run r = record {
   on_overrun = option_map (λ command. command.now) r.on_overrun;
   on_failure = option_map (λ command. command.now) r.on_failure;
   on_limit = option_map (λ command. command.now) r.on_limit;
+  on_success = option_map (λ command. command.now) r.on_success;
+  on_recovered = option_map (λ command. command.now) r.on_recovered;
+  mail = option_map (λ command. command.now) r.mail;
+  last_accepted = r.last_accepted;
+  check_only = r.check_only;
 }
 
 abbrev pub asked_stop : StopWords → AskedStop
@@ -190,13 +208,20 @@ abbrev pub asked_reload : ReloadWords → AskedReload
 asked_reload r = record { stamps = r.stamps.now; drain = r.drain }
 
 abbrev pub asked_status : StatusWords → AskedStatus
-asked_status s = record { stamps = s.stamps.now; json = s.json }
+asked_status s = record { stamps = s.stamps.now; json = s.json; metrics = s.metrics }
 
 abbrev pub asked_judge : JudgeWords → AskedJudge
 asked_judge j = record {
   table = j.table.now;
   declarations = j.declarations.now;
   anacrontab = option_map (λ path. path.now) j.anacrontab;
+}
+
+abbrev pub asked_apply : ApplyWords → AskedApply
+asked_apply a = record {
+  judge = asked_judge a.judge;
+  certificate = a.certificate.now;
+  stamps = a.stamps.now;
 }
 
 abbrev pub asked_make : MakeWords → AskedMake
@@ -254,6 +279,7 @@ asking (request.Check c) = Check (asked_check c)
 asking (request.Run r) = Run (asked_run r)
 asking (request.Stop s) = Stop (asked_stop s)
 asking (request.Reload r) = Reload (asked_reload r)
+asking (request.Apply a) = Apply (asked_apply a)
 asking (request.Status s) = Status (asked_status s)
 asking (request.Judge j) = Judge (asked_judge j)
 asking (request.Make m) = Make (asked_make m)

@@ -13,8 +13,8 @@ use Rattle.clap.specs.declared.error.Error.{Error}
 use Rattle.clap.specs.declared.error.kind.ErrorKind.{ErrorKind}
 use Rattle.clap.specs.declared.error.kind.ErrorKind.TheVariants.{DisplayHelp, DisplayVersion}
 use Rattle.clap.specs.declared.error.kind.ErrorKind.TheVariants as kind
-use Rattle.cs_args.specs.Asked.{Asked, AskedAdvise, AskedChart, AskedCheck, AskedDraft, AskedGather, AskedJudge, AskedLearn, AskedLint, AskedMake, AskedReload, AskedReplay, AskedRun, AskedStatus, AskedStop, Text, asking}
-use Rattle.cs_args.specs.Asked.{Advise, Asking, Chart, Check, Day, Draft, Explain, Gather, Help as HelpAsking, Judge, Learn, Lint, Make, Reload, Replay, Room, Run, Status, Stop}
+use Rattle.cs_args.specs.Asked.{Asked, AskedAdvise, AskedApply, AskedChart, AskedCheck, AskedDraft, AskedGather, AskedJudge, AskedLearn, AskedLint, AskedMake, AskedReload, AskedReplay, AskedRun, AskedStatus, AskedStop, Text, asking}
+use Rattle.cs_args.specs.Asked.{Advise, Apply, Asking, Chart, Check, Day, Draft, Explain, Gather, Help as HelpAsking, Judge, Learn, Lint, Make, Reload, Replay, Room, Run, Status, Stop}
 use Rattle.cs_args.specs.declared.request.Request.{Request}
 use Rattle.cs_args.specs.declared.request.UsageFault.TheVariants.{Help, NoCall, OutOfMemory, Version}
 use Rattle.cs_args.specs.declared.request.UsageFault.{UsageFault}
@@ -61,11 +61,18 @@ usage_of subcommand.Run = (
   codes "run",
   word "TABLE" ∷ word "DECLS" ∷ word "CERT" ∷ word "STAMPS" ∷ value "anacrontab" ∷
       value "minutes" ∷ value "log" ∷ value "output" ∷ value "keep" ∷ flag "home" ∷
-      flag "enforce" ∷ value "on-overrun" ∷ value "on-failure" ∷ value "on-limit" ∷ [],
+      flag "enforce" ∷ value "on-overrun" ∷ value "on-failure" ∷ value "on-limit" ∷
+      value "on-success" ∷ value "on-recovered" ∷ value "mail" ∷ flag "last-accepted" ∷
+      flag "check-only" ∷ [],
 )
 usage_of subcommand.Stop = (codes "stop", word "STAMPS" ∷ flag "now" ∷ [])
 usage_of subcommand.Reload = (codes "reload", word "STAMPS" ∷ flag "drain" ∷ [])
-usage_of subcommand.Status = (codes "status", word "STAMPS" ∷ flag "json" ∷ [])
+usage_of subcommand.Apply = (
+  codes "apply",
+  word "TABLE" ∷ word "DECLS" ∷ word "CERT" ∷ word "STAMPS" ∷ value "anacrontab" ∷ [],
+)
+usage_of subcommand.Status =
+    (codes "status", word "STAMPS" ∷ flag "json" ∷ flag "metrics" ∷ [])
 usage_of subcommand.Gather = (codes "gather", value "root" ∷ values "system" ∷ values "user" ∷ [])
 usage_of subcommand.Draft = (
   codes "draft",
@@ -108,9 +115,9 @@ rules_of s = (usage_of s).1
 unfoldable pub all_subcommands : List Subcommand
 all_subcommands =
     subcommand.Judge ∷ subcommand.Check ∷ subcommand.Make ∷ subcommand.Advise ∷ subcommand.Room ∷
-    subcommand.Run ∷ subcommand.Stop ∷ subcommand.Reload ∷ subcommand.Status ∷ subcommand.Gather ∷
-    subcommand.Draft ∷ subcommand.Learn ∷ subcommand.Lint ∷ subcommand.Day ∷ subcommand.Chart ∷
-    subcommand.Replay ∷ subcommand.Explain ∷ subcommand.Help ∷ []
+    subcommand.Run ∷ subcommand.Stop ∷ subcommand.Reload ∷ subcommand.Apply ∷ subcommand.Status ∷
+    subcommand.Gather ∷ subcommand.Draft ∷ subcommand.Learn ∷ subcommand.Lint ∷ subcommand.Day ∷
+    subcommand.Chart ∷ subcommand.Replay ∷ subcommand.Explain ∷ subcommand.Help ∷ []
 
 -- the arguments whose value is a number below 2 ^ 64, in decimal digits
 abbrev pub numbers : List Text
@@ -202,18 +209,20 @@ lacks subcommand.Gather rows =
     && (not (is_given (codes "system") rows) && not (is_given (codes "user") rows))
 lacks _ rows = false
 
--- `--keep` without `--output`, standard input twice, `--script` without `--log`, or a number out of
--- its range
+-- `--keep` or `--mail` without `--output`, `--json` with `--metrics`, standard input twice,
+-- `--script` without `--log`, or a number out of its range
 abbrev pub is_misfit : List Row → Bool
 is_misfit rows =
     (is_given (codes "keep") rows && not (is_given (codes "output") rows))
+    || ((is_given (codes "mail") rows && not (is_given (codes "output") rows))
+    || ((has_flag (codes "json") rows && has_flag (codes "metrics") rows)
     || ((number_or 30 (codes "keep") rows == 0)
     || (is_twice_standard inputs rows
     || ((has_flag (codes "script") rows && not (has_flag (codes "log") rows))
     || ((number_or 1 (codes "days") rows == 0 || nat_lt 7 (number_or 1 (codes "days") rows))
     || ((number_or 120 (codes "within") rows == 0
     || nat_lt 1439 (number_or 120 (codes "within") rows))
-    || number_or 1 (codes "first") rows == 0)))))
+    || number_or 1 (codes "first") rows == 0)))))))
 
 -- the words of a subcommand are wrong, though they have its form
 abbrev pub is_wrong : Subcommand → List Row → Bool
@@ -276,6 +285,11 @@ asked_in subcommand.Run rows = Run (record {
   on_overrun = first_of (codes "on-overrun") rows;
   on_failure = first_of (codes "on-failure") rows;
   on_limit = first_of (codes "on-limit") rows;
+  on_success = first_of (codes "on-success") rows;
+  on_recovered = first_of (codes "on-recovered") rows;
+  mail = first_of (codes "mail") rows;
+  last_accepted = has_flag (codes "last-accepted") rows;
+  check_only = has_flag (codes "check-only") rows;
 })
 asked_in subcommand.Stop rows = Stop (record {
   stamps = value_or [] (codes "STAMPS") rows;
@@ -288,6 +302,12 @@ asked_in subcommand.Reload rows = Reload (record {
 asked_in subcommand.Status rows = Status (record {
   stamps = value_or [] (codes "STAMPS") rows;
   json = has_flag (codes "json") rows;
+  metrics = has_flag (codes "metrics") rows;
+})
+asked_in subcommand.Apply rows = Apply (record {
+  judge = judge_in rows;
+  certificate = value_or [] (codes "CERT") rows;
+  stamps = value_or [] (codes "STAMPS") rows;
 })
 asked_in subcommand.Judge rows = Judge (judge_in rows)
 asked_in subcommand.Make rows =

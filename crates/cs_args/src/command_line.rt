@@ -17,9 +17,9 @@ ghost use Rattle.cs_args.specs.declared.table.Subcommand.TheVariants as subcomma
 
 use crate::commands::command;
 use crate::request::{
-    AdviseWords, ChartWords, CheckWords, DayWords, DraftWords, GatherWords, JudgeWords, LearnWords,
-    LintWords, MakeWords, ReloadWords, ReplayWords, Request, RunWords, StatusWords, StopWords,
-    UsageFault,
+    AdviseWords, ApplyWords, ChartWords, CheckWords, DayWords, DraftWords, GatherWords, JudgeWords,
+    LearnWords, LintWords, MakeWords, ReloadWords, ReplayWords, Request, RunWords, StatusWords,
+    StopWords, UsageFault,
 };
 use crate::table::Subcommand;
 use clap::error::ErrorKind;
@@ -234,6 +234,8 @@ impl<'a, 'm> Given<'a, 'm> {
         ensures { is_some result ≡ is_misfit (words_given self.entry) }
     {
         let (keeps, output) = (self.is_given("keep"), self.is_given("output"));
+        let mails = self.is_given("mail");
+        let (json, metrics) = (self.has_flag("json"), self.has_flag("metrics"));
         let keep = self.number("keep", 30);
         let is_twice = self.is_twice_standard(&INPUTS);
         let (script, log) = (self.has_flag("script"), self.has_flag("log"));
@@ -242,6 +244,10 @@ impl<'a, 'm> Given<'a, 'm> {
         let first = self.number("first", 1);
         if keeps && !output {
             Some("--keep is given without --output")
+        } else if mails && !output {
+            Some("--mail is given without --output")
+        } else if json && metrics {
+            Some("--json and --metrics are both given")
         } else if keep == 0 {
             Some("--keep is at least 1")
         } else if is_twice {
@@ -347,6 +353,11 @@ impl<'a, 'm> Given<'a, 'm> {
             on_overrun: self.value("on-overrun"),
             on_failure: self.value("on-failure"),
             on_limit: self.value("on-limit"),
+            on_success: self.value("on-success"),
+            on_recovered: self.value("on-recovered"),
+            mail: self.value("mail"),
+            last_accepted: self.has_flag("last-accepted"),
+            check_only: self.has_flag("check-only"),
         }
     }
 
@@ -459,9 +470,15 @@ impl<'a, 'm> Given<'a, 'm> {
                 stamps,
                 drain: self.has_flag("drain"),
             })),
+            Subcommand::Apply => Ok(Request::Apply(ApplyWords {
+                judge: self.judge(),
+                certificate: self.text("CERT", ""),
+                stamps,
+            })),
             Subcommand::Status => Ok(Request::Status(StatusWords {
                 stamps,
                 json: self.has_flag("json"),
+                metrics: self.has_flag("metrics"),
             })),
             Subcommand::Gather => Ok(Request::Gather(self.gather()?)),
             Subcommand::Draft => Ok(Request::Draft(self.draft())),

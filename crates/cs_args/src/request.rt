@@ -82,6 +82,17 @@ pub struct RunWords<'a> {
     pub on_failure: Option<&'a str>,
     /// The shell command that is started when `enforce` ended a run.
     pub on_limit: Option<&'a str>,
+    /// The shell command that is started when a run ended with status 0.
+    pub on_success: Option<&'a str>,
+    /// The shell command that is started when a run ended with status 0 and the one of its job
+    /// before it had failed.
+    pub on_recovered: Option<&'a str>,
+    /// The shell command that gets the output of each run that wrote something.
+    pub mail: Option<&'a str>,
+    /// Whether the files that a daemon of the folder accepted last are run if these are refused.
+    pub last_accepted: bool,
+    /// Whether nothing is run, but all is done that comes before that.
+    pub check_only: bool,
 }
 
 /// What `stop` is asked.
@@ -102,6 +113,17 @@ pub struct ReloadWords<'a> {
     pub drain: bool,
 }
 
+/// What `apply` is asked.
+#[derive(Clone, Copy)]
+pub struct ApplyWords<'a> {
+    /// The paths that `judge` is asked with.
+    pub judge: JudgeWords<'a>,
+    /// The path at which the certificate is put.
+    pub certificate: &'a str,
+    /// The path of the folder of stamps that the daemon uses.
+    pub stamps: &'a str,
+}
+
 /// What `status` is asked.
 #[derive(Clone, Copy)]
 pub struct StatusWords<'a> {
@@ -109,6 +131,8 @@ pub struct StatusWords<'a> {
     pub stamps: &'a str,
     /// Whether the state is shown as JSON, and not for people.
     pub json: bool,
+    /// Whether it is shown as metrics of Prometheus.
+    pub metrics: bool,
 }
 
 /// What `judge` is asked.
@@ -226,6 +250,8 @@ pub enum Request<'a> {
     Stop(StopWords<'a>),
     /// That a daemon reads its files again.
     Reload(ReloadWords<'a>),
+    /// That a daemon goes on with edited files, if they are safe.
+    Apply(ApplyWords<'a>),
     /// What a daemon does.
     Status(StatusWords<'a>),
     /// Whether a plan is safe, or a history that breaks it.

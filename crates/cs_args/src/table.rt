@@ -66,7 +66,7 @@ static ADVISE: [Argument; 5] = [
     Argument("first", Value("N"), texts::FIRST_HELP),
 ];
 
-static RUN: [Argument; 14] = [
+static RUN: [Argument; 19] = [
     TABLE,
     DECLS,
     CERT,
@@ -81,13 +81,24 @@ static RUN: [Argument; 14] = [
     Argument("on-overrun", Value("COMMAND"), texts::ON_OVERRUN_HELP),
     Argument("on-failure", Value("COMMAND"), texts::ON_FAILURE_HELP),
     Argument("on-limit", Value("COMMAND"), texts::ON_LIMIT_HELP),
+    Argument("on-success", Value("COMMAND"), texts::ON_SUCCESS_HELP),
+    Argument("on-recovered", Value("COMMAND"), texts::ON_RECOVERED_HELP),
+    Argument("mail", Value("COMMAND"), texts::MAIL_HELP),
+    Argument("last-accepted", Flag, texts::LAST_ACCEPTED_HELP),
+    Argument("check-only", Flag, texts::CHECK_ONLY_HELP),
 ];
 
 static STOP: [Argument; 2] = [STAMPS, Argument("now", Flag, texts::NOW_HELP)];
 
 static RELOAD: [Argument; 2] = [STAMPS, Argument("drain", Flag, texts::DRAIN_HELP)];
 
-static STATUS: [Argument; 2] = [STAMPS, Argument("json", Flag, texts::STATUS_JSON_HELP)];
+static APPLY: [Argument; 5] = [TABLE, DECLS, CERT, STAMPS, ANACRONTAB];
+
+static STATUS: [Argument; 3] = [
+    STAMPS,
+    Argument("json", Flag, texts::STATUS_JSON_HELP),
+    Argument("metrics", Flag, texts::METRICS_HELP),
+];
 
 static GATHER: [Argument; 3] = [
     Argument("root", Value("DIR"), texts::ROOT_HELP),
@@ -165,6 +176,7 @@ pub(crate) enum Subcommand {
     Run,
     Stop,
     Reload,
+    Apply,
     Status,
     Gather,
     Draft,
@@ -178,7 +190,7 @@ pub(crate) enum Subcommand {
 }
 
 /// All subcommands, in the order of the help.
-pub(crate) static SUBCOMMANDS: [Subcommand; 18] = [
+pub(crate) static SUBCOMMANDS: [Subcommand; 19] = [
     Subcommand::Judge,
     Subcommand::Check,
     Subcommand::Make,
@@ -187,6 +199,7 @@ pub(crate) static SUBCOMMANDS: [Subcommand; 18] = [
     Subcommand::Run,
     Subcommand::Stop,
     Subcommand::Reload,
+    Subcommand::Apply,
     Subcommand::Status,
     Subcommand::Gather,
     Subcommand::Draft,
@@ -213,6 +226,7 @@ impl Subcommand {
             Subcommand::Run => ("run", texts::RUN_ABOUT, texts::RUN_EXAMPLE),
             Subcommand::Stop => ("stop", texts::STOP_ABOUT, texts::STOP_EXAMPLE),
             Subcommand::Reload => ("reload", texts::RELOAD_ABOUT, texts::RELOAD_EXAMPLE),
+            Subcommand::Apply => ("apply", texts::APPLY_ABOUT, texts::APPLY_EXAMPLE),
             Subcommand::Status => ("status", texts::STATUS_ABOUT, texts::STATUS_EXAMPLE),
             Subcommand::Gather => ("gather", texts::GATHER_ABOUT, texts::GATHER_EXAMPLE),
             Subcommand::Draft => ("draft", texts::DRAFT_ABOUT, texts::DRAFT_EXAMPLE),
@@ -238,6 +252,7 @@ impl Subcommand {
             Subcommand::Run => RUN.as_slice(),
             Subcommand::Stop => STOP.as_slice(),
             Subcommand::Reload => RELOAD.as_slice(),
+            Subcommand::Apply => APPLY.as_slice(),
             Subcommand::Status => STATUS.as_slice(),
             Subcommand::Gather => GATHER.as_slice(),
             Subcommand::Draft => DRAFT.as_slice(),

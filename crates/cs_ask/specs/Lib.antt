@@ -1,3 +1,4 @@
+pub mod Applying
 pub mod Asking
 pub mod Stopping
 pub mod Reloading

@@ -11,7 +11,7 @@ use cs_civil::{Bytes, push_number};
 use cs_files::{Response, Status, finish, run_out};
 use cs_io::Output;
 use cs_json::Misread;
-use cs_machine::{Report, ToldFile, read_report, unix_seconds};
+use cs_machine::{Report, ToldFile, read_metrics, read_report, unix_seconds};
 use std::alloc::{AllocError, Global};
 use std::fs::File;
 use std::rt::{Clock, Files};
@@ -21,7 +21,8 @@ use std::rt::{Clock, Files};
 pub(crate) enum Health {
     /// All is well.
     Fine,
-    /// A run is late, or a stamp couldn't be written.
+    /// A run is late, a job's last run failed, a stamp couldn't be written, or the files that were
+    /// accepted last are run.
     Faulty,
     /// The state is too old.
     Old,
@@ -71,6 +72,27 @@ fn told_response(
     }
 }
 
+/// The state as the words ask for it; `lines` is its text for people.
+fn text_for(
+    alloc: Global,
+    words: StatusWords<'_>,
+    state: Vec<u8>,
+    lines: Vec<u8>,
+    is_up: bool,
+) -> Result<Vec<u8>, AllocError> {
+    if words.json {
+        return Ok(state);
+    }
+    if !words.metrics {
+        return Ok(lines);
+    }
+    match read_metrics(alloc, state.as_slice(), is_up) {
+        Ok(text) => Ok(text),
+        // the lines were read from it, so it is JSON
+        Err(_) => Err(AllocError),
+    }
+}
+
 fn respond_to<R: Clock>(
     rt: &R,
     alloc: Global,
@@ -85,11 +107,7 @@ fn respond_to<R: Clock>(
         Err(Misread::Fault(_)) => return Refusal::Untold.response(alloc, words.stamps),
     };
     let health = health_of(rt, &report);
-    let text = if words.json {
-        state
-    } else {
-        report.into_lines()
-    };
+    let text = text_for(alloc, words, state, report.into_lines(), true)?;
     told_response(alloc, health, text, words.stamps)
 }
 
@@ -118,11 +136,8 @@ fn respond_after<R: Clock>(
         Err(Misread::Memory) => return Err(AllocError),
         Err(Misread::Fault(_)) => return Refusal::NoDaemon.response(alloc, words.stamps),
     };
-    let text = if words.json {
-        state
-    } else {
-        last_lines(rt, alloc, report)?
-    };
+    let lines = last_lines(rt, alloc, report)?;
+    let text = text_for(alloc, words, state, lines, false)?;
     told_response(alloc, Health::Gone, text, words.stamps)
 }
 

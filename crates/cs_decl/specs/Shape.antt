@@ -42,7 +42,7 @@ is_part_member = is_among (codes "max" ∷ codes "name" ∷ codes "note" ∷ [])
 unfoldable pub is_cron_member : List ℕ → Bool
 is_cron_member = is_among
     (codes "command" ∷ codes "group" ∷ codes "guess" ∷ codes "line" ∷ codes "max" ∷ codes "mode"
-    ∷ codes "note" ∷ codes "parts" ∷ codes "weight" ∷ codes "when" ∷ [])
+    ∷ codes "name" ∷ codes "note" ∷ codes "parts" ∷ codes "weight" ∷ codes "when" ∷ [])
 
 unfoldable pub is_anacron_member : List ℕ → Bool
 is_anacron_member = is_among
@@ -108,6 +108,7 @@ cron_of d = do
   mode ← member_or_default mode_of Plain (codes "mode") d
   parts ← member_or_default (list_as part_of) [] (codes "parts") d
   guess ← guess_of d
+  label ← member_or_none text (codes "name") d
   Ok (record {
     name = name;
     max = max;
@@ -116,6 +117,7 @@ cron_of d = do
     mode = mode;
     parts = parts;
     guess = guess;
+    label = label;
   })
 
 -- an anacron job may have no mode: only whether there is one is read

@@ -40,6 +40,8 @@ pub struct CronEntry {
     pub parts: Sequence<PartEntry>,
     /// Whether the longest time is a draft's guess.
     pub guess: bool,
+    /// What people call the job, if the entry says so.
+    pub label: Option<Bytes>,
 }
 
 /// An entry of `parts`: one of the programs that a command runs one after the other, as

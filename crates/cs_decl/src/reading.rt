@@ -181,7 +181,8 @@ fn cron_object(value: &Value) -> Result<(), Misread>
     only_members(
         value,
         [
-            "command", "group", "guess", "line", "max", "mode", "note", "parts", "weight", "when",
+            "command", "group", "guess", "line", "max", "mode", "name", "note", "parts", "weight",
+            "when",
         ]
         .as_slice(),
     )
@@ -206,6 +207,7 @@ impl FromJson for CronEntry {
             mode: mode_member(value)?,
             parts: list_member(alloc, value, "parts")?,
             guess: guess_member(alloc, value)?,
+            label: text_if_there(alloc, value, "name")?,
         })
     }
 }

@@ -42,7 +42,7 @@ const TEXTS: [[&str; 4]; 7] = [
         "cron",
         "cron",
         "this entry of \"cron\"",
-        "command group guess line max mode note parts weight when",
+        "command group guess line max mode name note parts weight when",
     ],
     ["parts", "cron", "this entry of \"parts\"", "max name note"],
     [

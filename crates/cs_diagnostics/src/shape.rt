@@ -147,7 +147,8 @@ fn find_lacking(findings: &mut Findings, entry: &Entry<'_>) -> Done {
     let ([_, _, called, known], bracket) = (entry.kind.texts(), entry.object.bracket);
     for name in known.split_whitespace() {
         let is_needed = matches!(name, "capacity" | "exclusive" | "id" | "max" | "name");
-        if is_needed && !entry.object.has(name) {
+        let is_label = name == "name" && matches!(entry.kind, Kind::Cron);
+        if is_needed && !is_label && !entry.object.has(name) {
             let why = format_args!("\"{name}\" is required: add it to {called}");
             findings.fault_of(entry, bracket, DeclFault::BadShape, why)?;
         }

@@ -323,7 +323,7 @@ pub(crate) fn add_kept(
         None if is_whole => add_old_times(alloc, cron, bound.value)?,
         None => add_kept_parts(alloc, cron, told, asked, line.number(), bound.value, old)?,
     }
-    let names = ["weight", "group", "mode", "note"];
+    let names = ["weight", "group", "mode", "name", "note"];
     add_members(alloc, cron, COMMA, bound.value, names.as_slice())?;
     bind(alloc, cron, told, asked.lines, line, Some(bound))?;
     cron.extend_from_slice(b"}")

@@ -20,10 +20,10 @@ right:
         short: "a member is unknown or absent, or has no value of its kind",
         text: r#"The members are capacity, offset, hours, pass, groups, default, cron, anacron
 and left_out. Those of a cron entry are line, command, when, max, guess, weight,
-group, mode and parts; of a part name and max; of left_out line, command and
-when, of which line or command is enough; of default max and weight. Each object
-may have a note, a text. Numbers are whole and have no quotes; offset is -1439
-to 1439.
+group, mode, name and parts; of a part name and max; of left_out line, command
+and when, of which line or command is enough; of default max and weight. Each
+object may have a note, a text. Numbers are whole and have no quotes; offset is
+-1439 to 1439.
 crontab:
   30 23 * * * /usr/bin/backup
 wrong:

@@ -6,7 +6,7 @@ use Rattle.std.proofs.lemmas.Slice.Eq.{bytes_eq-Decides}
 use Rattle.cs_machine.specs.Output.{is_moment, zeroed}
 
 abbrev pub shape : List ℕ
-shape = codes "0000-00-00T00:00"
+shape = codes "0000-00-00T00-00"
 
 abbrev pub FitsAt : List ℕ → ℕ → Type 0
 FitsAt text k = zeroed (get_or text k 0) ≡ get_or shape k 0

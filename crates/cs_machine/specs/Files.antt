@@ -29,6 +29,10 @@ runs_file_of folder = file_of folder (codes "cronsafe runs")
 abbrev pub answer_file_of : List ℕ → List ℕ
 answer_file_of folder = file_of folder (codes "cronsafe answer")
 
+-- the files that were accepted last
+abbrev pub accepted_file_of : List ℕ → List ℕ
+accepted_file_of folder = file_of folder (codes "cronsafe accepted")
+
 abbrev pub lock_file_of : List ℕ → List ℕ
 lock_file_of folder = file_of folder (codes "cronsafe lock")
 

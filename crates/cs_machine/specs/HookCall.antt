@@ -1,10 +1,11 @@
 -- For which lines of a daemon's log a command of the operator's is started.
-use Rattle.std.specs.Prelude.{◌≡◌, ◌≢◌, ◌⊎◌, ℕ, ◌==◌, nat_lt, if◌then◌else◌, false, List, [], ◌∷◌, ◌++◌, length, codes}
+use Rattle.std.specs.Prelude.{◌≡◌, ◌≢◌, ◌⊎◌, ℕ, ◌==◌, nat_lt, if◌then◌else◌, false, List, [], ◌∷◌, ◌++◌, length, codes, Option}
 use Rattle.std.specs.List.{list_any}
 use Rattle.cs_machine.specs.Limit.{limit_line}
 use Rattle.cs_machine.specs.Setup.{peers_of}
 use Rattle.cs_machine.specs.declared.hook_call.HookCall.{HookCall as TheCall}
-use Rattle.cs_machine.specs.declared.hook_call.HookCall.TheVariants.{Overrun, Failure, Limit}
+use Rattle.cs_machine.specs.declared.hook_call.HookEvent.{HookEvent}
+use Rattle.cs_machine.specs.declared.hook_call.HookEvent.TheVariants.{Failure, Limit, Overrun, Success}
 use Rattle.cs_machine.specs.declared.setup.JobNote.{JobNote}
 
 -- `ended RUN WHAT WORD`, with one word at the end
@@ -29,16 +30,27 @@ TellsFailure words run status =
     ((words ≡ codes "not started " ++ run) × (status ≡ codes "not started"))
     ⊎ (TellsEnd words run status × (status ≢ codes "0"))
 
--- hooks are called for a run that is late, that failed, or that was ended at its limit
-abbrev pub Tells : List ℕ → List JobNote → TheCall → Type 0
-Tells words jobs (Overrun run peers) =
+abbrev pub TellsSuccess : List ℕ → List ℕ → Type 0
+TellsSuccess words run = words ≡ codes "ended " ++ run ++ codes " status 0"
+
+-- what the line says has happened to the run; `span` is how many seconds it took
+abbrev pub TellsEvent : List ℕ → List JobNote → Option ℕ → List ℕ → HookEvent → Type 0
+TellsEvent words jobs span run (Overrun peers) =
     (words ≡ codes "overrun " ++ run) × (peers ≡ peers_of run jobs)
-Tells words jobs (Failure run status) = TellsFailure words run status
-Tells words jobs (Limit run peers) = (words ≡ limit_line run) × (peers ≡ peers_of run jobs)
+TellsEvent words jobs span run (Failure status seconds) =
+    TellsFailure words run status × (seconds ≡ span)
+TellsEvent words jobs span run (Limit peers) =
+    (words ≡ limit_line run) × (peers ≡ peers_of run jobs)
+TellsEvent words jobs span run (Success seconds) = TellsSuccess words run × (seconds ≡ span)
+
+-- hooks are called for a run that is late, that failed, that was ended at its limit, or that ended
+-- with status 0
+abbrev pub Tells : List ℕ → List JobNote → Option ℕ → TheCall → Type 0
+Tells words jobs span call = TellsEvent words jobs span call.run call.event
 
 -- the calls that are kept after a line: its own comes last, unless there are 256 before
-abbrev pub Keeps : List ℕ → List JobNote → List TheCall → List TheCall → Type 0
-Keeps words jobs before after =
-    ((call : TheCall) × Tells words jobs call
+abbrev pub Keeps : List ℕ → List JobNote → Option ℕ → List TheCall → List TheCall → Type 0
+Keeps words jobs span before after =
+    ((call : TheCall) × Tells words jobs span call
     × (after ≡ (if nat_lt (length before) 256 then before ++ call ∷ [] else before)))
-    ⊎ (((call : TheCall) → ¬ (Tells words jobs call)) × (after ≡ before))
+    ⊎ (((call : TheCall) → ¬ (Tells words jobs span call)) × (after ≡ before))

@@ -10,5 +10,7 @@ abbrev pub is_recent : ℕ → Option ℕ → Bool
 is_recent at None = false
 is_recent at (Some fault_at) = nat_le at (fault_at + 120)
 
-abbrev pub has_fault : ℕ → Option ℕ → Bool → Bool
-has_fault at fault_at has_late = is_recent at fault_at || has_late
+-- that, a run is late, a job's last run failed, or the files that were accepted last are run
+abbrev pub has_fault : ℕ → Option ℕ → Bool → Bool → Bool → Bool
+has_fault at fault_at has_late has_failed has_last_accepted =
+    is_recent at fault_at || has_late || has_failed || has_last_accepted

@@ -41,7 +41,7 @@ Follows at words jobs text =
     ⊎ (((run : List ℕ) → words ≢ codes "overrun " ++ run) × (text ≡ []))
 
 -- without hooks no call is added; where memory ran out, the line's may be missing
-abbrev pub IsCalled : Setup → List ℕ → Bool → List TheCall → List TheCall → Type 0
-IsCalled setup words kept before after =
-    ((setup.has_hooks ≡ true) × Keeps words setup.jobs.now before after)
+abbrev pub IsCalled : Setup → List ℕ → Option ℕ → Bool → List TheCall → List TheCall → Type 0
+IsCalled setup words span kept before after =
+    ((setup.has_hooks ≡ true) × Keeps words setup.jobs.now span before after)
     ⊎ (((setup.has_hooks && kept) ≡ false) × (after ≡ before))

@@ -12,18 +12,22 @@ use std::process::{Command, Processes, Stdio};
 
 const CALL: &str = "(eval \"$1\") </dev/null &";
 
+const CALL_ON: &str = "(eval \"$1\") <\"$2\" &";
+
 /// Starts a command with `/bin/sh` in the background, with these variables and streams, and doesn't
-/// wait for it. In a value, bytes that aren't UTF-8 become U+FFFD. An error if the shell can't be
-/// started, as where the command or a value has a byte 0, or if memory runs out.
+/// wait for it. Its input is the file at `input`, or the null device if there is none. In a value,
+/// bytes that aren't UTF-8 become U+FFFD. An error if the shell can't be started, as where the
+/// command or a value has a byte 0, or if memory runs out.
 pub fn call_hook<P: Processes>(
     processes: &P,
     alloc: Global,
     command: &str,
+    input: Option<&str>,
     variables: &[(&str, &[u8])],
     out: Stdout,
     err: Stderr,
 ) -> io::Result<()> {
-    let mut shell = hook_command(alloc, command, variables)?;
+    let mut shell = hook_command(alloc, command, input, variables)?;
     shell.stdin(Stdio::null());
     shell.stdout(Stdio::from(out));
     shell.stderr(Stdio::from(err));
@@ -34,21 +38,26 @@ pub fn call_hook<P: Processes>(
 fn hook_command(
     alloc: Global,
     command: &str,
+    input: Option<&str>,
     variables: &[(&str, &[u8])],
 ) -> Result<Command, AllocError>
     ensures program { IfOk result (λ c. command_program c ≡ codes "/bin/sh") }
-    ensures words { IfOk result (λ c. command_args c ≡ hook_words command.now) }
+    ensures words { IfOk result (λ c. command_args c
+        ≡ hook_words command.now (option_map (λ path. path.now) input.entry)) }
     ensures variables { IfOk result (λ c. (name : List ℕ)
         → command_var c name ≡ option_map Some (hook_value variables.now name)) }
     ensures inherits { IfOk result (λ c. clears_env c ≡ false) }
     ensures folder { IfOk result (λ c. command_dir c ≡ None) }
 {
     let mut shell = Command::new(alloc, "/bin/sh")?;
+    set_all(alloc, &mut shell, variables)?;
     shell.arg("-c")?;
-    shell.arg(CALL)?;
+    shell.arg(if input.is_some() { CALL_ON } else { CALL })?;
     shell.arg("sh")?;
     shell.arg(command)?;
-    set_all(alloc, &mut shell, variables)?;
+    if let Some(path) = input {
+        shell.arg(path)?;
+    }
     Ok(shell)
 }
 

@@ -1,40 +1,55 @@
 ghost use Rattle.std.specs.Prelude.{◌≡◌, ◌++◌, ◌==◌, ℕ, List, false, codes, IfOk, IfSome};
-ghost use Rattle.std.specs.Prelude.{IsNone};
+ghost use Rattle.std.specs.Prelude.{IsNone, IsSome, ◌≢◌};
 ghost use Rattle.std.specs.List.{list_any};
 ghost use Rattle.std.specs.Result.{is_ok};
 ghost use Rattle.cs_machine.specs.HookCall.{EndsBy, Tells, TellsEnd, TellsFailure, TellsSignal};
+ghost use Rattle.cs_machine.specs.HookCall.{TellsSuccess};
+ghost use Rattle.cs_machine.specs.Limit.{limit_line};
 ghost use Rattle.cs_machine.specs.RunLog.{IsCalled};
 ghost use Rattle.cs_machine.specs.declared.hook_call.HookCall.{HookCall as TheCall};
 
-use crate::setup::{JobNote, Setup, peers_of};
+use crate::output::output_path;
+use crate::setup::{Setup, note_of, peers_of};
 use cs_civil::Bytes;
 use memchr::memrchr;
 use std::alloc::{AllocError, Global};
 
-/// An event of a run for which a command of the operator's is started.
+/// An event of a run for which commands of the operator's are started.
 #[derive(Drop)]
-pub enum HookCall {
+pub struct HookCall {
+    /// The name of the run.
+    pub run: Bytes,
+    /// What has happened.
+    pub event: HookEvent,
+    /// The path of the file for the run's output; empty if there is none.
+    pub output: Bytes,
+}
+
+/// What has happened to a run.
+#[derive(Drop)]
+pub enum HookEvent {
     /// It has passed its declared time.
     Overrun {
-        /// Its name.
-        run: Bytes,
         /// The jobs whose runs may meet it, such as `line 5, job backup`; empty if there are none.
         peers: Bytes,
     },
     /// It couldn't be started, ended with a status other than 0, or by a signal.
     Failure {
-        /// Its name.
-        run: Bytes,
         /// The status as the log writes it, `none` if there is none; `signal` and its number; or
         /// `not started`.
         status: Bytes,
+        /// How many seconds it took, if that is known.
+        seconds: Option<u64>,
     },
     /// It was ended at its limit.
     Limit {
-        /// Its name.
-        run: Bytes,
         /// As for an overrun, since some of it may go on.
         peers: Bytes,
+    },
+    /// It ended with status 0.
+    Success {
+        /// How many seconds it took, if that is known.
+        seconds: Option<u64>,
     },
 }
 
@@ -66,7 +81,7 @@ fn signalled_run(words: &[u8]) -> Option<(&[u8], &[u8])>
     Some((run, &words[b"ended ".len() + run.len() + 1..]))
 }
 
-fn ended_run(words: &[u8]) -> Option<(&[u8], &[u8])>
+pub(crate) fn ended_run(words: &[u8]) -> Option<(&[u8], &[u8])>
     ensures some { IfSome result (λ p. TellsEnd words.now p.0.now p.1.now) }
     ensures none { IsNone result → (run status : List ℕ) → ¬ (TellsEnd words.now run status) }
 {
@@ -90,47 +105,89 @@ fn failed_run(words: &[u8]) -> Option<(&[u8], &[u8])>
     Some((run, status))
 }
 
-fn copied(alloc: Global, one: &[u8], other: &[u8]) -> Result<(Bytes, Bytes), AllocError>
-    ensures { IfOk result (λ both. (both.0 ≡ one.now) × (both.1 ≡ other.now)) }
+fn succeeded_run(words: &[u8]) -> Option<&[u8]>
+    ensures some { IfSome result (λ run. TellsSuccess words.now run.now) }
+    ensures none { IsNone result → (run : List ℕ) → ¬ (TellsSuccess words.now run) }
 {
-    let one = Bytes::from_slice(alloc, one)?;
-    let other = Bytes::from_slice(alloc, other)?;
-    Ok((one, other))
+    words.strip_prefix(b"ended ")?.strip_suffix(b" status 0")
 }
 
-fn call_of(alloc: Global, words: &[u8], jobs: &[JobNote]) -> Result<Option<HookCall>, AllocError>
-    ensures some { IfOk result (λ call. IfSome call (Tells words.now jobs.now)) }
-    ensures none { IfOk result
-        (λ call. IsNone call → (it : TheCall) → ¬ (Tells words.now jobs.now it)) }
+fn limited_run(words: &[u8]) -> Option<&[u8]>
+    ensures some { IfSome result (λ run. words.now ≡ limit_line run.now) }
+    ensures none { IsNone result → (run : List ℕ) → words.now ≢ limit_line run }
+{
+    words.strip_suffix(b" was ended at its limit")
+}
+
+/// Empty where there is none.
+fn output_of(alloc: Global, setup: &Setup<'_>, run: &[u8]) -> Result<Bytes, AllocError> {
+    let (Some(folder), Some(note)) = (setup.output, note_of(setup.jobs, run)) else {
+        return Ok(Bytes::new(alloc));
+    };
+    match output_path(alloc, folder, run, note.name.as_slice()) {
+        Ok(path) => Bytes::from_slice(alloc, path.as_bytes()),
+        Err(_) => Ok(Bytes::new(alloc)),
+    }
+}
+
+fn call_with(
+    alloc: Global,
+    run: &[u8],
+    event: HookEvent,
+    setup: &Setup<'_>,
+) -> Result<Option<HookCall>, AllocError>
+    ensures { IfOk result (λ call. IsSome call
+        × IfSome call (λ c. (c.run ≡ run.now) × (c.event ≡ event))) }
+{
+    let run = Bytes::from_slice(alloc, run)?;
+    let output = output_of(alloc, setup, run.as_slice())?;
+    Ok(Some(HookCall { run, event, output }))
+}
+
+fn call_of(
+    alloc: Global,
+    words: &[u8],
+    seconds: Option<u64>,
+    setup: &Setup<'_>,
+) -> Result<Option<HookCall>, AllocError>
+    ensures some { IfOk result
+        (λ call. IfSome call (Tells words.now setup.now.jobs.now seconds)) }
+    ensures none { IfOk result (λ call. IsNone call
+        → (it : TheCall) → ¬ (Tells words.now setup.now.jobs.now seconds it)) }
 {
     if let Some(run) = words.strip_prefix(b"overrun ") {
-        let (run, peers) = copied(alloc, run, peers_of(jobs, run))?;
-        return Ok(Some(HookCall::Overrun { run, peers }));
+        let peers = Bytes::from_slice(alloc, peers_of(setup.jobs, run))?;
+        return call_with(alloc, run, HookEvent::Overrun { peers }, setup);
     }
     if let Some((run, status)) = failed_run(words) {
-        let (run, status) = copied(alloc, run, status)?;
-        return Ok(Some(HookCall::Failure { run, status }));
+        let status = Bytes::from_slice(alloc, status)?;
+        return call_with(alloc, run, HookEvent::Failure { status, seconds }, setup);
     }
-    let Some(run) = words.strip_suffix(b" was ended at its limit") else {
+    if let Some(run) = succeeded_run(words) {
+        return call_with(alloc, run, HookEvent::Success { seconds }, setup);
+    }
+    let Some(run) = limited_run(words) else {
         return Ok(None);
     };
-    let (run, peers) = copied(alloc, run, peers_of(jobs, run))?;
-    Ok(Some(HookCall::Limit { run, peers }))
+    let peers = Bytes::from_slice(alloc, peers_of(setup.jobs, run))?;
+    call_with(alloc, run, HookEvent::Limit { peers }, setup)
 }
 
-/// Keeps the call for a line, if there are hooks and fewer than 256 calls.
+/// Keeps the call for a line, if there are hooks and fewer than 256 calls. `seconds` is the time of
+/// the run that the line ends, if that is known.
 pub(crate) fn note_call(
     alloc: Global,
     calls: &mut Vec<HookCall>,
     words: &[u8],
+    seconds: Option<u64>,
     setup: &Setup<'_>,
 ) -> Result<(), AllocError>
-    ensures { IsCalled setup.now words.now (is_ok result) calls.old.items calls.new.items }
+    ensures { IsCalled setup.now words.now seconds (is_ok result) calls.old.items calls.new.items }
 {
     if !setup.has_hooks {
         return Ok(());
     }
-    let Some(call) = call_of(alloc, words, setup.jobs)? else {
+    let Some(call) = call_of(alloc, words, seconds, setup)? else {
         return Ok(());
     };
     if calls.len() < MOST {

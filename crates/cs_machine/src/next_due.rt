@@ -10,12 +10,6 @@ ghost use Rattle.cs_machine.specs.Busy.{is_due_on};
 use crate::setup::JobNote;
 use cs_civil::{DayKind, Minute, kind_of};
 
-#[derive(Clone, Copy)]
-pub(crate) struct NextDue<'a> {
-    pub(crate) note: &'a JobNote,
-    pub(crate) minute: Minute,
-}
-
 /// 8 days, in minutes.
 const AHEAD: u64 = 11_520;
 
@@ -30,27 +24,17 @@ pub(crate) fn is_due_on(note: &JobNote, kind: DayKind, minute_of_day: u16) -> bo
     }
 }
 
-fn due_at<'a>(jobs: &'a [JobNote], minute: Minute) -> Option<&'a JobNote> {
-    let kind = kind_of(minute.day());
-    for note in jobs {
-        if is_due_on(note, kind, minute.minute_of_day()) {
-            return Some(note);
-        }
-    }
-    None
-}
-
-fn first_due<'a>(jobs: &'a [JobNote], from: u64, end: u64) -> Option<NextDue<'a>> {
+fn first_due(note: &JobNote, from: u64, end: u64) -> Option<Minute> {
     for number in from..end {
         let minute = Minute::new(number)?;
-        if let Some(note) = due_at(jobs, minute) {
-            return Some(NextDue { note, minute });
+        if is_due_on(note, kind_of(minute.day()), minute.minute_of_day()) {
+            return Some(minute);
         }
     }
     None
 }
 
-/// Minutes in which no line is due, so that each is looked at about once.
+/// Minutes in which a job isn't due, so that each is looked at about once.
 #[derive(Clone, Copy)]
 pub(crate) struct QuietTime {
     from: u64,
@@ -63,20 +47,19 @@ impl QuietTime {
 }
 
 /// Within the next 8 days.
-pub(crate) fn next_due<'a>(
-    jobs: &'a [JobNote],
-    quiet: &mut QuietTime,
-    after: Minute,
-) -> Option<NextDue<'a>> {
+pub(crate) fn next_due(note: &JobNote, quiet: &mut QuietTime, after: Minute) -> Option<Minute> {
+    if note.when.is_none() {
+        return None;
+    }
     let first = after.number() + 1;
     let unknown = if quiet.from <= first && first <= quiet.end {
         quiet.end
     } else {
         first
     };
-    let due = first_due(jobs, unknown, first + AHEAD);
+    let due = first_due(note, unknown, first + AHEAD);
     let end = match &due {
-        Some(due) => due.minute.number(),
+        Some(minute) => minute.number(),
         None => unknown.max(first + AHEAD),
     };
     *quiet = QuietTime { from: first, end };

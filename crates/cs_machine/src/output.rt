@@ -1,10 +1,13 @@
 ghost use Rattle.std.specs.Prelude.{◌≡◌, ◌++◌, Some, drop, string_bytes};
-ghost use Rattle.std.specs.Prelude.{IfOk, OnOk, length, take, true, ◌+◌};
-ghost use Rattle.cs_machine.specs.Output.{AreOld, AreOthers, is_moment};
-ghost use Rattle.cs_machine.specs.Output.{is_other_of, output_name, output_text, zeroed};
+ghost use Rattle.std.specs.Prelude.{IfOk, OnOk, length, map, option_map, take, true, ◌+◌};
+ghost use Rattle.cs_machine.specs.Files.{file_of};
+ghost use Rattle.cs_machine.specs.Output.{AreOld, AreOthers, dashed, is_moment, job_text, name_in};
+ghost use Rattle.cs_machine.specs.Output.{is_other_of, named_job, output_name, output_text};
+ghost use Rattle.cs_machine.specs.Output.{plain, zeroed};
 
 use crate::paths::{file_name, path_in};
 use crate::pieces::piece;
+use crate::setup::JobNote;
 use crate::start_text::push_place;
 use cs_civil::Bytes;
 use std::alloc::{AllocError, Global};
@@ -14,20 +17,72 @@ use std::rt::Files;
 use std::{fs, io};
 
 /// A folder in which the output of each run has a file of its own: that of the run
-/// `line 3 due 2024-09-13 23:30` is `2024-09-13T23:30-line-3`. So a job's files have the same end,
-/// and are in the order of their minutes.
+/// `line 3 due 2024-09-13 23:30` of the job `backup` is `2024-09-13T23-30-line-3-backup`. So a job's
+/// files have the same end, and are in the order of their minutes.
 #[derive(Drop)]
 pub struct OutputFolder {
     pub(crate) path: String,
     keep: u64,
+    /// Of each job how the names of its runs begin, and its name.
+    names: Vec<(Bytes, Bytes)>,
 }
 
 /// How a file's name begins, with `0` for each digit.
-const SHAPE: &[u8] = b"0000-00-00T00:00";
+const SHAPE: &[u8] = b"0000-00-00T00-00";
 
-/// An error too if the run's name has fewer than five words.
-fn output_name(alloc: Global, run: &[u8]) -> io::Result<Bytes>
-    ensures { IfOk result (λ name. output_name run.now ≡ Some name) }
+/// So many bytes of a job's name are in that of a file.
+const SHOWN: usize = 60;
+
+fn dashed(byte: u8) -> u8
+    ensures { result ≡ dashed byte }
+{
+    if byte == b':' { b'-' } else { byte }
+}
+
+fn plain(byte: u8) -> u8
+    ensures { result ≡ plain byte }
+{
+    if byte.is_ascii_alphanumeric() || matches!(byte, b'.' | b'_' | b'-') {
+        byte
+    } else {
+        b'_'
+    }
+}
+
+fn push_dashed(text: &mut Vec<u8>, time: &[u8]) -> Result<(), AllocError>
+    ensures { OnOk result (text.new.items ≡ text.old.items ++ map dashed time.now) }
+{
+    for byte in time {
+        text.push(dashed(*byte))?;
+    }
+    Ok(())
+}
+
+fn push_plain(text: &mut Vec<u8>, name: &[u8]) -> Result<(), AllocError>
+    ensures { OnOk result (text.new.items ≡ text.old.items ++ map plain name.now) }
+{
+    for byte in name {
+        text.push(plain(*byte))?;
+    }
+    Ok(())
+}
+
+/// That of an anacron job is in the name of its runs.
+fn push_job(text: &mut Vec<u8>, kind: &[u8], name: &[u8]) -> Result<(), AllocError>
+    ensures { OnOk result (text.new.items ≡ text.old.items ++ job_text kind.now name.now) }
+{
+    if kind != b"line".as_slice() {
+        return Ok(());
+    }
+    let (shown, _) = parts(name, SHOWN);
+    text.push(b'-')?;
+    push_plain(text, shown)
+}
+
+/// The name of the file for the output of a run, of a job with this name. An error too if the run's
+/// name has fewer than five words.
+pub(crate) fn output_name(alloc: Global, run: &[u8], name: &[u8]) -> io::Result<Bytes>
+    ensures { IfOk result (λ file. output_name run.now name.now ≡ Some file) }
 {
     let (Some(day), Some(time)) = (piece(run, b' ', 3), piece(run, b' ', 4)) else {
         return Err(io::Error::from(ErrorKind::InvalidInput));
@@ -35,14 +90,55 @@ fn output_name(alloc: Global, run: &[u8]) -> io::Result<Bytes>
     let (Some(kind), Some(job)) = (piece(run, b' ', 0), piece(run, b' ', 1)) else {
         return Err(io::Error::from(ErrorKind::InvalidInput));
     };
-    let mut name = Vec::from_slice(alloc, day)?;
-    name.push(b'T')?;
-    name.extend_from_slice(time)?;
-    name.push(b'-')?;
-    name.extend_from_slice(kind)?;
-    name.push(b'-')?;
-    name.extend_from_slice(job)?;
-    Ok(Bytes::from_vec(name))
+    let mut file = Vec::from_slice(alloc, day)?;
+    file.push(b'T')?;
+    push_dashed(&mut file, time)?;
+    file.push(b'-')?;
+    file.extend_from_slice(kind)?;
+    file.push(b'-')?;
+    file.extend_from_slice(job)?;
+    push_job(&mut file, kind, name)?;
+    Ok(Bytes::from_vec(file))
+}
+
+/// An error too if that can't be a file's name.
+fn path_of(alloc: Global, folder: &str, file: &[u8]) -> io::Result<String>
+    ensures { IfOk result (λ path. string_bytes path ≡ file_of folder.now file.now) }
+{
+    Ok(path_in(alloc, folder, file_name(file)?)?)
+}
+
+/// Returns the path of the file for the output of a run, of a job with this name. An error if the
+/// run's name has fewer than five words, its file can't have its name, or memory runs out.
+pub fn output_path(alloc: Global, folder: &str, run: &[u8], name: &[u8]) -> io::Result<String>
+    ensures { IfOk result (λ path. option_map (file_of folder.now) (output_name run.now name.now)
+        ≡ Some (string_bytes path)) }
+{
+    let file = output_name(alloc, run, name)?;
+    path_of(alloc, folder, file.as_slice())
+}
+
+fn names_of(alloc: Global, jobs: &[JobNote]) -> Result<Vec<(Bytes, Bytes)>, AllocError>
+    ensures { IfOk result (λ names. names.items ≡ map named_job jobs.now) }
+{
+    let mut names = Vec::new(alloc);
+    for note in jobs {
+        let front = Bytes::from_slice(alloc, note.front.as_slice())?;
+        let name = Bytes::from_slice(alloc, note.name.as_slice())?;
+        names.push((front, name))?;
+    }
+    Ok(names)
+}
+
+fn name_in<'a>(names: &'a [(Bytes, Bytes)], run: &[u8]) -> &'a [u8]
+    ensures { result.now ≡ name_in run.now names.now }
+{
+    for job in names {
+        if run.starts_with(job.0.as_slice()) {
+            return job.1.as_slice();
+        }
+    }
+    b"".as_slice()
 }
 
 fn zeroed(byte: u8) -> u8
@@ -135,13 +231,21 @@ fn open_twice<R: Files>(rt: &R, path: &str) -> io::Result<(R::File, R::File)> {
 }
 
 impl OutputFolder {
-    /// Returns the folder at that path, there or not, with `keep` files of each job, at least one.
-    pub fn new(alloc: Global, path: &str, keep: u64) -> Result<OutputFolder, AllocError>
+    /// Returns the folder at that path, there or not, with `keep` files of each of these jobs, at
+    /// least one.
+    pub fn new(
+        alloc: Global,
+        path: &str,
+        keep: u64,
+        jobs: &[JobNote],
+    ) -> Result<OutputFolder, AllocError>
         ensures path { IfOk result (λ folder. string_bytes folder.path ≡ path.now) }
         ensures keep { IfOk result (λ folder. folder.keep ≡ keep) }
+        ensures names { IfOk result (λ folder. folder.names.items ≡ map named_job jobs.now) }
     {
         let path = String::from_str(alloc, path)?;
-        Ok(OutputFolder { path, keep })
+        let names = names_of(alloc, jobs)?;
+        Ok(OutputFolder { path, keep, names })
     }
 
     fn old<R: Files>(&self, rt: &R, alloc: Global, file: &[u8]) -> io::Result<Vec<String>>
@@ -155,15 +259,10 @@ impl OutputFolder {
         Ok(names)
     }
 
-    /// An error too if that can't be a file's name.
-    fn path_of(&self, alloc: Global, name: &[u8]) -> io::Result<String> {
-        Ok(path_in(alloc, self.path.as_str(), file_name(name)?)?)
-    }
-
     /// What can't be removed stays.
     fn make_room<R: Files>(&self, rt: &R, alloc: Global, file: &[u8]) -> io::Result<()> {
         for name in &self.old(rt, alloc, file)? {
-            let path = self.path_of(alloc, name.as_bytes())?;
+            let path = path_of(alloc, self.path.as_str(), name.as_bytes())?;
             let _ = fs::remove_file(rt, path.as_str());
         }
         Ok(())
@@ -177,9 +276,9 @@ impl OutputFolder {
         alloc: Global,
         run: &[u8],
     ) -> io::Result<(R::File, R::File)> {
-        let name = output_name(alloc, run)?;
-        let path = self.path_of(alloc, name.as_slice())?;
-        let _ = self.make_room(rt, alloc, name.as_slice());
+        let file = output_name(alloc, run, name_in(self.names.as_slice(), run))?;
+        let path = path_of(alloc, self.path.as_str(), file.as_slice())?;
+        let _ = self.make_room(rt, alloc, file.as_slice());
         open_twice(rt, path.as_str())
     }
 }

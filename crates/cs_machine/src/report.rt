@@ -5,8 +5,9 @@ ghost use Rattle.cs_machine.specs.Report.{has_fault, is_old};
 ghost use Rattle.cs_machine.specs.RunLog.{moment_text};
 
 use crate::line_text::moment_text;
+use crate::state::LAST_ACCEPTED;
 use cs_civil::{push_number, read_minute};
-use cs_json::{BAD_SHAPE, Misread, member, parse, value_at};
+use cs_json::{BAD_SHAPE, Misread, member, member_or, parse, value_at};
 use serde_json::Value;
 use std::alloc::{AllocError, Global};
 
@@ -17,6 +18,9 @@ pub struct Report {
     at: u64,
     is_stopping: bool,
     has_late: bool,
+    /// Whether a job's last run failed.
+    has_failed: bool,
+    has_last_accepted: bool,
     stamp_fault_at: Option<u64>,
     /// Its text for people.
     lines: Vec<u8>,
@@ -27,7 +31,7 @@ const SECONDS: u64 = 120;
 
 /// In seconds since 1970-01-01 00:00 UTC, from 1970-01-02 on, of a text like
 /// `2024-09-13T23:30:01Z`.
-fn read_moment(text: &[u8]) -> Option<u64>
+pub(crate) fn read_moment(text: &[u8]) -> Option<u64>
     ensures { IfSome result (λ at. text.now ≡ moment_text at) }
 {
     let (front, behind) = text.split_at_checked(16)?;
@@ -247,6 +251,90 @@ fn push_faults(alloc: Global, lines: &mut Vec<u8>, value: &Value) -> Result<(), 
     Ok(())
 }
 
+/// The name too, unless that ends the front of its runs' names, as of a job of the anacrontab.
+fn push_job_name(lines: &mut Vec<u8>, job: &Value) -> Result<(), Misread> {
+    let (front, name) = (text_at(job, "job")?, text_at(job, "name")?);
+    let name = if front.ends_with(name) {
+        None
+    } else {
+        Some(name)
+    };
+    push_told(lines, &[("", Some(front)), (" ", name), (":", Some(""))])?;
+    Ok(())
+}
+
+/// When a job is due next, and when its last run began.
+fn push_runs(lines: &mut Vec<u8>, job: &Value) -> Result<(), Misread> {
+    let next = text_if_told(job.get("next_due"))?;
+    let last = text_if_told(job.get("last_start"))?;
+    let comma = if next.is_some() { "," } else { "" };
+    let front = if last.is_some() {
+        " last "
+    } else {
+        " no run yet"
+    };
+    let last = last.unwrap_or("");
+    let told = [(" next ", next), (comma, Some(front)), ("", Some(last))];
+    push_told(lines, &told)?;
+    Ok(())
+}
+
+/// How a job's last run ended, unless a later one goes on.
+fn push_end(alloc: Global, lines: &mut Vec<u8>, job: &Value) -> Result<(), Misread> {
+    let start = seconds_if_told(text_if_told(job.get("last_start"))?)?;
+    let end = seconds_if_told(text_if_told(job.get("last_end"))?)?;
+    let Some(status) = text_if_told(job.get("last_status"))? else {
+        return Ok(());
+    };
+    if end.unwrap_or(0) < start.unwrap_or(0) {
+        return Ok(());
+    }
+    let front = if status.as_bytes().contains(&b' ') {
+        ", "
+    } else {
+        ", status "
+    };
+    push_told(lines, &[(front, Some(status))])?;
+    let Some(seconds) = value_at(job, "last_seconds")?.as_u64() else {
+        return Ok(());
+    };
+    push_told(lines, &[(" after ", Some(""))])?;
+    push_number(alloc, lines, u128::from(seconds))?;
+    push_told(lines, &[(" s", Some(""))])?;
+    Ok(())
+}
+
+/// Returns whether there are any.
+fn push_failures(alloc: Global, lines: &mut Vec<u8>, job: &Value) -> Result<bool, Misread> {
+    let failures = value_at(job, "failures")?.as_u64().ok_or(BAD_SHAPE)?;
+    if failures == 1 {
+        lines.extend_from_slice(b", failed once")?;
+    }
+    if failures > 1 {
+        lines.extend_from_slice(b", failed ")?;
+        push_number(alloc, lines, u128::from(failures))?;
+        lines.extend_from_slice(b" times in a row")?;
+    }
+    Ok(failures > 0)
+}
+
+/// Earlier versions write none. Returns whether a job's last run failed.
+fn push_jobs(alloc: Global, lines: &mut Vec<u8>, value: &Value) -> Result<bool, Misread> {
+    let mut has_failed = false;
+    if value.get("jobs").is_none() {
+        return Ok(has_failed);
+    }
+    for job in items_at(value, "jobs")? {
+        push_job_name(lines, job)?;
+        push_runs(lines, job)?;
+        push_end(alloc, lines, job)?;
+        has_failed |= push_failures(alloc, lines, job)?;
+        let output = text_if_told(job.get("last_output"))?;
+        push_told(lines, &[(", output ", output), ("\n", Some(""))])?;
+    }
+    Ok(has_failed)
+}
+
 fn report_of(alloc: Global, value: &Value) -> Result<Report, Misread> {
     let at = seconds_at(value, "at")?;
     seconds_at(value, "since")?;
@@ -254,8 +342,13 @@ fn report_of(alloc: Global, value: &Value) -> Result<Report, Misread> {
     let stamp_fault_at = seconds_if_told(stamp_fault_at)?;
     see_checksum(value)?;
     let is_stopping = member(alloc, value, "stopping")?;
+    let has_last_accepted = member_or(alloc, value, "last_accepted", false)?;
     let mut lines = Vec::new(alloc);
     push_head(&mut lines, value)?;
+    if has_last_accepted {
+        lines.extend_from_slice(LAST_ACCEPTED)?;
+        lines.extend_from_slice(b"\n")?;
+    }
     if is_stopping {
         lines.extend_from_slice(b"nothing more is started\n")?;
     }
@@ -263,10 +356,13 @@ fn report_of(alloc: Global, value: &Value) -> Result<Report, Misread> {
     let has_late = push_running(alloc, &mut lines, value)?;
     push_waiting(&mut lines, value)?;
     push_faults(alloc, &mut lines, value)?;
+    let has_failed = push_jobs(alloc, &mut lines, value)?;
     Ok(Report {
         at,
         is_stopping,
         has_late,
+        has_failed,
+        has_last_accepted,
         stamp_fault_at,
         lines,
     })
@@ -274,8 +370,8 @@ fn report_of(alloc: Global, value: &Value) -> Result<Report, Misread> {
 
 /// Reads the text of a daemon's state. A fault if it isn't JSON, a member is absent or has another
 /// form, or a text in it holds a control character; other members are ignored. `next_due`,
-/// `missed`, `ended_at_limit`, `certificate_sha256`, `left_running`, and a run's `until` and
-/// `may_meet` may be absent.
+/// `missed`, `ended_at_limit`, `certificate_sha256`, `left_running`, `last_accepted`, `jobs`, and a
+/// run's `until` and `may_meet` may be absent.
 pub fn read_report(alloc: Global, state: &[u8]) -> Result<Report, Misread> {
     let value = parse(alloc, state)?;
     report_of(alloc, &value)
@@ -287,13 +383,15 @@ impl Report {
         self.lines
     }
 
-    /// Whether a run is late, or a stamp couldn't be written in the two minutes before this state.
+    /// Whether a run is late, a job's last run failed, the files that were accepted last are run, or
+    /// a stamp couldn't be written in the two minutes before this state.
     pub fn has_fault(&self) -> bool
-        ensures { result ≡ has_fault self.now.at self.now.stamp_fault_at self.now.has_late }
+        ensures { result ≡ has_fault self.now.at self.now.stamp_fault_at self.now.has_late
+            self.now.has_failed self.now.has_last_accepted }
     {
         match self.stamp_fault_at {
             Some(fault_at) if self.at.saturating_sub(fault_at) <= SECONDS => true,
-            _ => self.has_late,
+            _ => self.has_late || self.has_failed || self.has_last_accepted,
         }
     }
 

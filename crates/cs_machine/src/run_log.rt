@@ -6,8 +6,8 @@ ghost use Rattle.cs_machine.specs.RunLog.{Follows, IsCalled, line_text};
 use crate::hook_call::{HookCall, note_call};
 use crate::line_text::{push_line, push_meeting};
 use crate::machine_clock::{minute_after, unix_seconds};
-use crate::next_due::{QuietTime, next_due};
-use crate::setup::Setup;
+use crate::records::look_ahead;
+use crate::setup::{JobNote, Setup};
 use crate::state::State;
 use crate::state_text::state_text;
 use std::alloc::{AllocError, Global};
@@ -33,7 +33,6 @@ pub struct RunLog<'r, R, W> {
     pub(crate) setup: Setup<'r>,
     line: Vec<u8>,
     pub(crate) state: State,
-    quiet: QuietTime,
     calls: Vec<HookCall>,
 }
 
@@ -58,8 +57,7 @@ impl<'r, R: time::Clock, W: Write> RunLog<'r, R, W> {
             is_timed,
             setup,
             line: Vec::new(alloc),
-            state: State::new(alloc, unix_seconds(rt)),
-            quiet: QuietTime::NONE,
+            state: State::new(alloc, unix_seconds(rt), setup.jobs),
             calls: Vec::new(alloc),
         }
     }
@@ -90,8 +88,8 @@ impl<'r, R: time::Clock, W: Write> RunLog<'r, R, W> {
     /// Takes what a runner has left for the log, and writes it as [`note`](RunLog::note) does, even
     /// if memory runs out for the state.
     pub fn note_left(&mut self, text: &[u8]) -> io::Result<()>
-        ensures calls { (kept : Bool) × IsCalled self.old.setup text.now kept
-            self.old.calls.items self.new.calls.items }
+        ensures calls { (kept : Bool) × (span : Option ℕ) × IsCalled self.old.setup text.now span
+            kept self.old.calls.items self.new.calls.items }
         ensures timed { self.old.is_timed ≡ true → OnOk result ((at : Option ℕ)
             × Appends (W.contents self.old.out) (W.contents self.new.out)
             (line_text at text.now None)) }
@@ -106,8 +104,8 @@ impl<'r, R: time::Clock, W: Write> RunLog<'r, R, W> {
 
     /// Writes the line that follows by the same call, even if memory runs out for the state.
     fn tell(&mut self, words: &[u8]) -> io::Result<()>
-        ensures calls { (kept : Bool) × IsCalled self.old.setup words.now kept
-            self.old.calls.items self.new.calls.items }
+        ensures calls { (kept : Bool) × (span : Option ℕ) × IsCalled self.old.setup words.now span
+            kept self.old.calls.items self.new.calls.items }
         ensures line { OnOk result ((at : Option ℕ) × (span : Option ℕ) × (meeting : List ℕ)
             × Follows at words.now self.old.setup.jobs.now meeting
             × Appends (W.contents self.old.out) (W.contents self.new.out)
@@ -125,8 +123,8 @@ impl<'r, R: time::Clock, W: Write> RunLog<'r, R, W> {
 
     /// Even if memory runs out for the state.
     fn pass(&mut self, words: &[u8], line: &[u8]) -> io::Result<()>
-        ensures calls { (kept : Bool) × IsCalled self.old.setup words.now kept
-            self.old.calls.items self.new.calls.items }
+        ensures calls { (kept : Bool) × (span : Option ℕ) × IsCalled self.old.setup words.now span
+            kept self.old.calls.items self.new.calls.items }
         ensures line { OnOk result
             (Appends (W.contents self.old.out) (W.contents self.new.out) line.now) }
         ensures left { (self.new.setup ≡ self.old.setup)
@@ -138,13 +136,21 @@ impl<'r, R: time::Clock, W: Write> RunLog<'r, R, W> {
     }
 
     fn take(&mut self, words: &[u8], at: Option<u64>) -> Option<u64>
-        ensures calls { (kept : Bool) × IsCalled self.old.setup words.now kept
+        ensures calls { (kept : Bool) × IsCalled self.old.setup words.now result kept
             self.old.calls.items self.new.calls.items }
         ensures left { (self.new.out ≡ self.old.out) × (self.new.setup ≡ self.old.setup)
             × (self.new.is_timed ≡ self.old.is_timed) }
     {
-        let _ = note_call(self.alloc, &mut self.calls, words, &self.setup);
-        self.state.take(words, at, self.setup.jobs)
+        let span = self.state.take(words, at, self.setup.jobs);
+        let _ = note_call(self.alloc, &mut self.calls, words, span, &self.setup);
+        span
+    }
+
+    /// Returns what is said of the jobs of its plan.
+    pub fn jobs(&self) -> &'r [JobNote]
+        ensures { result.now ≡ self.now.setup.jobs.now }
+    {
+        self.setup.jobs
     }
 
     /// Takes the calls of hooks since the last time, in the order of the log's lines: at most 256.
@@ -185,13 +191,13 @@ impl<'r, R: time::Clock, W: Write> RunLog<'r, R, W> {
         if !self.state.is_due(at) {
             return None;
         }
-        let next = match minute_after(at, self.setup.offset) {
-            Some(after) if !self.state.is_stopping => {
-                next_due(self.setup.jobs, &mut self.quiet, after)
-            }
-            _ => None,
+        let after = if self.state.is_stopping {
+            None
+        } else {
+            minute_after(at, self.setup.offset)
         };
-        state_text(self.alloc, &self.setup, &self.state, &next, at).ok()
+        look_ahead(self.state.records.as_mut_slice(), self.setup.jobs, after);
+        state_text(self.alloc, &self.setup, &self.state, at).ok()
     }
 }
 

@@ -2,6 +2,7 @@ ghost use Rattle.std.specs.Prelude.{◌≡◌, All, IfOk, vec_len};
 ghost use Rattle.cs_machine.specs.Runners.{IsMadeBy};
 
 use crate::output::OutputFolder;
+use crate::setup::JobNote;
 use std::alloc::{AllocError, Global};
 
 /// The settings of a daemon's runners.
@@ -16,6 +17,8 @@ pub struct RunnerWords<'a> {
     pub output: Option<&'a str>,
     /// How many files of each job are kept there, at least 1.
     pub keep: u64,
+    /// The jobs, for the names of those files.
+    pub jobs: &'a [JobNote],
     /// The offset of the plan's clock, in minutes ahead of UTC, if runs are ended in time.
     pub offset: Option<i16>,
 }
@@ -42,7 +45,7 @@ fn runner_by<W: Drop, F: Fn(RunnerSetup) -> W + Drop>(
     ensures { IfOk result (IsMadeBy (F.post new_runner.now) words.entry) }
 {
     let output = match words.output {
-        Some(path) => Some(OutputFolder::new(alloc, path, words.keep)?),
+        Some(path) => Some(OutputFolder::new(alloc, path, words.keep, words.jobs)?),
         None => None,
     };
     Ok(new_runner(RunnerSetup {

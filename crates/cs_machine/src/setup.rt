@@ -16,6 +16,13 @@ pub struct JobNote {
     pub peers: Bytes,
     /// When its line of the crontab is due; none for a job of the anacrontab.
     pub when: Option<Schedule>,
+    /// What people call it: the name of its entry, else the program of its command; the identifier
+    /// of a job of the anacrontab.
+    pub name: Bytes,
+    /// Its command.
+    pub command: Bytes,
+    /// The user that its command runs as; none if it is the daemon's own.
+    pub user: Option<Bytes>,
 }
 
 /// What a daemon was begun with.
@@ -33,6 +40,8 @@ pub struct Setup<'a> {
     pub digest: [u8; 32],
     /// The path of its anacrontab.
     pub anacrontab: Option<&'a str>,
+    /// The path of the folder for the output of runs, if there is one.
+    pub output: Option<&'a str>,
     /// The greatest weight of the jobs that may run at once.
     pub capacity: u64,
     /// The minutes by which the operator's clock is ahead of UTC.
@@ -45,7 +54,8 @@ pub struct Setup<'a> {
     pub has_limits: bool,
 }
 
-fn note_of<'a>(jobs: &'a [JobNote], run: &[u8]) -> Option<&'a JobNote>
+/// Returns what is said of a run's job; none for a run of no job here.
+pub fn note_of<'a>(jobs: &'a [JobNote], run: &[u8]) -> Option<&'a JobNote>
     ensures { option_map (λ note. note.now) result ≡ note_of run.now jobs.now }
 {
     for note in jobs {

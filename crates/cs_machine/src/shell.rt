@@ -76,7 +76,7 @@ pub fn shell_command(
     }
 }
 
-fn is_text(bytes: &[u8]) -> bool
+pub(crate) fn is_text(bytes: &[u8]) -> bool
     ensures { result ≡ is_utf8 bytes.now }
 {
     str::from_utf8(bytes).is_ok()

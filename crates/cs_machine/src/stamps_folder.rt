@@ -3,7 +3,7 @@ ghost use Rattle.cs_anacrontab.specs.Stamp.{IsStampText};
 ghost use Rattle.cs_civil.specs.Calendar.{last_day};
 
 use crate::paths::{file_name, new_path_in, path_in};
-use crate::replacing::{read_first, replace_file};
+use crate::replacing::{Readers, read_first, replace_file};
 use cs_anacrontab::{read_stamp, stamp_text};
 use cs_civil::Day;
 use cs_device::{Failures, Stamp, StampStore};
@@ -111,6 +111,7 @@ impl<'r, 'f, R: Files> StampsFolder<'r, 'f, R> {
         let new_path = new_path_in(self.alloc, self.folder, name)?;
         replace_file(
             self.rt,
+            Readers::Usual,
             self.folder,
             new_path.as_str(),
             path.as_str(),

@@ -1,5 +1,6 @@
 use crate::counts::Counts;
 use crate::missed::missed_by;
+use crate::records::{JobRecord, new_records, note_record};
 use crate::setup::JobNote;
 use crate::starts::{is_last_of, note_run};
 use cs_civil::Bytes;
@@ -27,11 +28,18 @@ pub(crate) struct State {
     unwritten: Vec<Bytes>,
     /// When a stamp last couldn't be written.
     pub(crate) stamp_fault_at: Option<u64>,
+    /// In the order of the jobs.
+    pub(crate) records: Vec<JobRecord>,
+    /// Whether the files that were accepted last are run, not those that are there.
+    pub(crate) has_last_accepted: bool,
     pub(crate) is_stopping: bool,
     /// Whether a line came since the state was last written.
     has_changed: bool,
     written_at: Option<u64>,
 }
+
+/// What the daemon notes where it runs those.
+pub(crate) const LAST_ACCEPTED: &[u8] = b"the files that were accepted last are run";
 
 /// After so many seconds the state is written anyway.
 const SECONDS: u64 = 60;
@@ -71,7 +79,7 @@ fn add(alloc: Global, names: &mut Vec<Bytes>, name: &[u8]) {
 }
 
 impl State {
-    pub(crate) fn new(alloc: Global, at: Option<u64>) -> State {
+    pub(crate) fn new(alloc: Global, at: Option<u64>, jobs: &[JobNote]) -> State {
         State {
             alloc,
             since: at,
@@ -83,6 +91,8 @@ impl State {
             missed: 0,
             unwritten: Vec::new(alloc),
             stamp_fault_at: None,
+            records: new_records(alloc, jobs),
+            has_last_accepted: false,
             is_stopping: false,
             has_changed: true,
             written_at: None,
@@ -107,7 +117,11 @@ impl State {
             self.stamp_fault_at = at;
             self.add_unwritten(job);
         }
-        note_run(self.alloc, &mut self.starts, words, at)
+        self.has_last_accepted |= words == LAST_ACCEPTED;
+        let span = note_run(self.alloc, &mut self.starts, words, at);
+        let records = self.records.as_mut_slice();
+        note_record(self.alloc, records, jobs, words, at, span);
+        span
     }
 
     fn take_left(&mut self, words: &[u8]) {

@@ -20,7 +20,7 @@ use Rattle.cs_ruling.specs.Answer.{AnswersRun, IfEnds, IsRuled, Refuses}
 use Rattle.cs_ruling.specs.Check.{AreDigestsOf, FindsClaimed, IsDigestAt, IsDigestOf, IsVerdict, IsVerdictOn, answer_of, said}
 use Rattle.cs_ruling.specs.Safe.{IsAccepted, IsChecked, IsReplyOn, IsSafe}
 use Rattle.cs_ruling.specs.declared.answer.Answer.{Answer}
-use Rattle.cs_ruling.specs.declared.answer.Answer.TheVariants.{Ends, Reloads, Runs, Stops, Tells}
+use Rattle.cs_ruling.specs.declared.answer.Answer.TheVariants.{Applies, Ends, Reloads, Runs, Stops, Tells}
 use Rattle.cs_ruling.specs.declared.check.Claimed.{Claimed}
 use Rattle.cs_ruling.specs.declared.check.Digests.{Digests}
 use Rattle.cs_files.specs.Reads.{IsRead, MeansIt, without_rest}
@@ -154,6 +154,7 @@ ruled_done a x (Ends e) (inr others) = λ six. let three : e.status ≡ 3 = refu
 ruled_done a x (Runs order) is = tt
 ruled_done a x (Stops words) is = absurd is
 ruled_done a x (Reloads folder) is = absurd is
+ruled_done a x (Applies certificate folder made) is = absurd is
 ruled_done a x (Tells words) is = absurd is
 
 pub ends_honest : (failed : Failed) (reads : Reads) (answer : Answer) → IfEnds (λ e. e.status ≢ 6) answer → IfEnds (IsHonest failed reads) answer
@@ -161,4 +162,5 @@ ends_honest failed reads (Ends e) other = λ six. absurd (other six)
 ends_honest failed reads (Runs order) other = tt
 ends_honest failed reads (Stops words) other = tt
 ends_honest failed reads (Reloads folder) other = tt
+ends_honest failed reads (Applies certificate folder made) other = tt
 ends_honest failed reads (Tells words) other = tt

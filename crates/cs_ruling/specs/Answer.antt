@@ -1,5 +1,5 @@
 -- What a call comes to: an answer that ends it, an order to run tables, or words to stop a daemon,
--- to have it read its files again, or to show its state.
+-- to have it read its files again, first with a new certificate, or to show its state.
 use Rattle.std.specs.Prelude.{◌≡◌, ◌⊎◌, ◌++◌, ℕ, List, [], Option, Ok, Err, codes, decimal, ⊤}
 use Rattle.cs_owner.specs.Owners.{AreOwnersOf, IsUnowned}
 use Rattle.cs_owner.specs.declared.owners.Unowned.{Unowned}
@@ -16,7 +16,7 @@ use Rattle.cs_ruling.specs.declared.check.Claimed.{Claimed}
 use Rattle.cs_files.specs.Response.{Ending, complaint}
 use Rattle.cs_files.specs.Trouble.{Trouble, ends}
 use Rattle.cs_ruling.specs.declared.answer.Answer.{Answer}
-use Rattle.cs_ruling.specs.declared.answer.Answer.TheVariants.{Ends, Reloads, Runs, Stops, Tells}
+use Rattle.cs_ruling.specs.declared.answer.Answer.TheVariants.{Applies, Ends, Reloads, Runs, Stops, Tells}
 use Rattle.cs_ruling.specs.declared.answer.Order.{Order}
 
 -- the call ends, and this holds of its ending
@@ -25,6 +25,7 @@ EndsAs P (Ends ending) = P ending
 EndsAs P (Runs order) = ⊥
 EndsAs P (Stops words) = ⊥
 EndsAs P (Reloads stamps) = ⊥
+EndsAs P (Applies certificate stamps made) = ⊥
 EndsAs P (Tells words) = ⊥
 
 -- where the call ends, this holds of its ending
@@ -33,15 +34,17 @@ IfEnds P (Ends ending) = P ending
 IfEnds P (Runs order) = ⊤
 IfEnds P (Stops words) = ⊤
 IfEnds P (Reloads stamps) = ⊤
+IfEnds P (Applies certificate stamps made) = ⊤
 IfEnds P (Tells words) = ⊤
 
 -- what is to be run is the plan and the certificate that were claimed, which the checker accepts,
--- as it was asked, with the digests of the files, and the owners of the commands of a gathered
--- crontab; `check` would answer `safe` and the same notes
+-- as it was asked, with the text of the declarations, the digests of the files, and the owners of
+-- the commands of a gathered crontab; `check` would answer `safe` and the same notes
 pub record IsOrder (a : AskedRun) (x : Claimed) (order : Order) : Type 0 where
   pub accepted : IsAccepted x order.checked
   pub owners : AreOwnersOf x.planned.table x.planned.places (plan_in order.checked).crontab
       order.owners
+  pub declarations : order.declarations ≡ x.planned.declarations
   pub words : asked_run order.words ≡ a
   pub digests : order.digests ≡ x.digests
   pub notes : order.warnings ≡ plan_notes (plan_in order.checked)
@@ -72,6 +75,7 @@ IsRuled a x (Ends ending) = (IsVerdictOn x ending × (ending.status ≡ 1)) ⊎ 
 IsRuled a x (Runs order) = IsOrder a x order
 IsRuled a x (Stops words) = ⊥
 IsRuled a x (Reloads stamps) = ⊥
+IsRuled a x (Applies certificate stamps made) = ⊥
 IsRuled a x (Tells words) = ⊥
 
 -- what comes of `run`: that, or the first fault of a file

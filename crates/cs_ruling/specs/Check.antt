@@ -107,6 +107,14 @@ pub record AreDigestsOf (files : List ℕ → Option (List ℕ)) (a : AskedCheck
   pub declarations : IsDigestAt files a.declarations digests.declarations
   pub certificate : IsDigestOf files a.certificate c digests.certificate
 
+-- each is that of its text
+abbrev pub AreOfTexts : Digests → List ℕ → List ℕ → List ℕ → Type 0
+AreOfTexts digests table declarations certificate = digests ≡ record {
+  table = sha256 table;
+  declarations = sha256 declarations;
+  certificate = sha256 certificate;
+}
+
 abbrev pub ReadsCertificate : (List ℕ → Option (List ℕ)) → Text → Failed → Failed
     → Result Content Trouble → Type 0
 ReadsCertificate files path = ReadsAs files path (λ bytes c. certificate_by bytes ≡ c) InCertificate

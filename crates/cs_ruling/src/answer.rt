@@ -20,6 +20,15 @@ pub enum Answer<'a> {
     Stops(StopWords<'a>),
     /// A daemon is to read its files again.
     Reloads(ReloadWords<'a>),
+    /// It ends as `make` does, or a daemon is to go on with the certificate.
+    Applies {
+        /// The path at which the certificate is put.
+        certificate: &'a str,
+        /// The path of the daemon's folder of stamps.
+        stamps: &'a str,
+        /// The answer to `make --compact`.
+        made: Response,
+    },
     /// The state of a daemon is to be shown.
     Tells(StatusWords<'a>),
 }
@@ -33,6 +42,8 @@ pub struct Order<'a> {
     pub owners: Sequence<Owner>,
     /// The notes on the plan, still to be written.
     pub warnings: Bytes,
+    /// The text of the declarations.
+    pub declarations: Bytes,
     /// What `run` is asked.
     pub words: RunWords<'a>,
     /// The SHA-256 of the files, as they were read.

@@ -1,6 +1,7 @@
 //! The subcommand `check`.
 ghost use denote.Param.Send.{IsSync};
-ghost use Rattle.std.specs.Prelude.{◌≡◌, ◌++◌, ℕ, IfErr, IfOk, List, None, OnOk, Some, ⊤};
+ghost use Rattle.std.specs.Prelude.{◌≡◌, ◌↔◌, ◌++◌, ℕ, IfErr, IfOk, IsTrue, List, None, OnOk, Some};
+ghost use Rattle.std.specs.Prelude.{⊤};
 ghost use Rattle.cs_check.specs.Checked.{Tells as TellsFault, certificate_in, plan_in};
 ghost use Rattle.cs_claims.specs.Certificate.{content};
 ghost use Rattle.cs_check.specs.Case.{fault_of};
@@ -8,7 +9,7 @@ ghost use Rattle.cs_theorem.specs.Told.{told};
 ghost use Rattle.cs_report.specs.Warning.{plan_notes};
 ghost use Rattle.cs_args.specs.Asked.{asked_check};
 ghost use Rattle.cs_io.specs.Files.{AreReadInTurn, IsFresh, IsReadAlone};
-ghost use Rattle.cs_ruling.specs.Check.{FindsClaimed, IsDigestOf, IsVerdict};
+ghost use Rattle.cs_ruling.specs.Check.{AreOfTexts, FindsClaimed, IsDigestOf, IsVerdict};
 ghost use Rattle.cs_ruling.specs.Check.{ReadsCertificate, answer_of, fault_places, safe_text, said};
 ghost use Rattle.cs_ruling.specs.Check.{stale_note};
 ghost use Rattle.cs_ruling.specs.Safe.{IsReplyOn, IsSafe};
@@ -48,6 +49,17 @@ pub struct Digests {
     pub declarations: [u8; 32],
     /// The certificate's.
     pub certificate: [u8; 32],
+}
+
+impl Digests {
+    /// Whether they are those of these texts.
+    pub fn are_of(&self, table: &[u8], declarations: &[u8], certificate: &[u8]) -> bool
+        ensures { IsTrue result ↔ AreOfTexts self.now table.now declarations.now certificate.now }
+    {
+        self.table == Sha256::digest(table)
+            && self.declarations == Sha256::digest(declarations)
+            && self.certificate == Sha256::digest(certificate)
+    }
 }
 
 fn certificate_in<'a>(alloc: Global, bytes: &[u8]) -> Result<(Certificate, [u8; 32]), Fault<'a>>

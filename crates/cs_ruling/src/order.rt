@@ -59,7 +59,7 @@ fn answer_by<'a, C: Checker>(
         plan,
         places,
         table,
-        ..
+        declarations,
     } = planned;
     let listed = places.as_slice();
     let ruled = ruling(checker, alloc, plan, listed, certificate)?;
@@ -87,15 +87,14 @@ fn answer_by<'a, C: Checker>(
         checked,
         owners,
         warnings,
+        declarations,
         words,
         digests,
     }))
 }
 
-/// Answers `run TABLE DECLS CERT STAMPS [--anacrontab FILE] [--minutes N] [--log FILE] [--output
-/// FOLDER] [--keep N] [--home] [--enforce] [--on-overrun COMMAND] [--on-failure COMMAND]
-/// [--on-limit COMMAND]`: like `check` if that doesn't answer `safe`, with a fault if a command of
-/// a gathered crontab has no owner, else with what to run.
+/// Answers `run`: like `check` if that doesn't answer `safe`, with a fault if a command of a
+/// gathered crontab has no owner, else with what to run.
 pub fn answer_run<'a, R: Threads + Sync>(
     rt: &R,
     alloc: Global,

@@ -1,3 +1,5 @@
+pub mod Calls
 pub mod Peers
+pub mod Same
 pub mod Service
 pub mod Turns

@@ -7,7 +7,7 @@ use Rattle.cs_daemon.specs.declared.end.Cause.{Cause}
 use Rattle.cs_daemon.specs.declared.end.Cause.TheVariants.{Stopped}
 use Rattle.cs_serve.specs.Anew.{IsOrderOf}
 use Rattle.cs_files.specs.Ending.{Sink, Tries}
-use Rattle.cs_serve.specs.Serve.{ComesBehind, IsFollowed, IsNextOf, IsRun, IsServedBehind, IsServedBy, Refuses, Serves, ServesOne, Tellings, cause_status, taken_away}
+use Rattle.cs_serve.specs.Serve.{ComesBehind, IsFollowed, IsNextOf, IsRun, IsServedBehind, IsServedBy, IsUnserved, Refuses, Serves, ServesOne, Tellings, cause_status, taken_away}
 use Rattle.cs_serve.specs.declared.obstacle.Obstacle.{Obstacle}
 
 abbrev pub tellings : Telling → ℕ → Tellings
@@ -30,18 +30,17 @@ pub followed : (order : Order) (old new : Sink) (cause : Cause) (status : ℕ) (
 followed order old new cause status a next served by is (stopped, ordered) =
     (subst (λ (n : ℕ). IsServedBehind order old new n) (by ∙ ap cause_status stopped) served, subst (λ (b : AskedRun). IsOrderOf b next) is ordered)
 
+pub unserved : (obstacle : Obstacle) (order : Order) (out-old out-new err-old err-new : Sink) (status : ℕ) → Refuses obstacle order out-old out-new err-old err-new status
+    → IsUnserved order out-old out-new err-old err-new status
+unserved obstacle order out-old out-new err-old err-new status (inl told) = inl (obstacle, told)
+unserved obstacle order out-old out-new err-old err-new status (inr ran) = inr ran
+
 pub refused : (obstacle : Obstacle) (order : Order) (out-old out-new err-old err-new : Sink) (status : ℕ) → Refuses obstacle order out-old out-new err-old err-new status
     → ServesOne order out-old out-new err-old err-new status
-refused obstacle order out-old out-new err-old err-new status (inl told) = inl (obstacle, told)
-refused obstacle order out-old out-new err-old err-new status (inr ran) = inr (inl ran)
+refused obstacle order out-old out-new err-old err-new status told = inl (unserved obstacle order out-old out-new err-old err-new status told)
 
 -- an order after others
 pub last_of : (first : Order) (out-old out-new err-old err-new : Sink) (status : ℕ) (earlier : List Order) (order : Order) (out err : Sink)
     → ComesBehind first out-old err-old earlier order out err → ServesOne order out out-new err err-new status → Serves first out-old out-new err-old err-new status
 last_of first out-old out-new err-old err-new status earlier order out err turns one =
     record { earlier = earlier; order = order; out = out; err = err; turns = turns; comes = one }
-
--- an order alone
-pub alone : (order : Order) (out-old out-new err-old err-new : Sink) (status : ℕ) → ServesOne order out-old out-new err-old err-new status
-    → Serves order out-old out-new err-old err-new status
-alone order out-old out-new err-old err-new status one = last_of order out-old out-new err-old err-new status [] order out-old err-old (refl, refl, refl) one

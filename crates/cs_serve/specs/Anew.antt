@@ -49,6 +49,7 @@ next_by words order = record {
   checked = order.checked;
   owners = order.owners;
   warnings = warned order;
+  declarations = order.declarations;
   words = words;
   digests = order.digests;
 }

@@ -1,6 +1,6 @@
 -- What comes of an order to run tables.
 use Rattle.std.specs.Prelude.{◌≡◌, ◌≢◌, ◌⊎◌, ◌+◌, ◌<◌, ◌≤◌, ◌++◌, ◌∷◌, ℕ, List, [], Option, None, Some}
-use Rattle.std.specs.Prelude.{IfSome, codes, option_map, slice_index_or, sum, unwrap_or}
+use Rattle.std.specs.Prelude.{IfSome, codes, false, option_map, slice_index_or, sum, true, unwrap_or}
 use Rattle.arrayvec.specs.ArrayVec.{array_vec_len}
 use Rattle.cs_check.specs.Checked.{plan_in}
 use Rattle.cs_check.specs.declared.checked.Checked.{Checked}
@@ -161,14 +161,17 @@ Refuses obstacle order out-old out-new err-old err-new status =
     Ends (unserved obstacle order) out-old out-new err-old err-new status
     ⊎ ((out-new ≡ out-old) × RunsOutBehind order err-old err-new status)
 
--- it isn't served, which is reported after the warnings; or memory ran out, and nothing is run; or
--- it was run
-abbrev pub ServesOne : Order → Sink → Sink → Sink → Sink → ℕ → Type 0
-ServesOne order out-old out-new err-old err-new status =
+-- it isn't served, which is reported after the warnings; or memory ran out, and nothing is run
+abbrev pub IsUnserved : Order → Sink → Sink → Sink → Sink → ℕ → Type 0
+IsUnserved order out-old out-new err-old err-new status =
     ((obstacle : Obstacle)
     × Ends (unserved obstacle order) out-old out-new err-old err-new status)
-    ⊎ (((out-new ≡ out-old) × RunsOutBehind order err-old err-new status)
-    ⊎ IsRun order err-old err-new status)
+    ⊎ ((out-new ≡ out-old) × RunsOutBehind order err-old err-new status)
+
+-- so it is, or it was run
+abbrev pub ServesOne : Order → Sink → Sink → Sink → Sink → ℕ → Type 0
+ServesOne order out-old out-new err-old err-new status =
+    IsUnserved order out-old out-new err-old err-new status ⊎ IsRun order err-old err-new status
 
 -- a daemon that has stopped is followed by what these words order
 abbrev pub IsNextOf : Cause → AskedRun → Order → Type 0
@@ -199,3 +202,17 @@ pub record Serves (first : Order) (out-old out-new err-old err-new : Sink) (stat
     pub err : Sink
     pub turns : ComesBehind first out-old err-old earlier order out err
     pub comes : ServesOne order out out-new err err-new status
+
+-- nothing is run: the warnings are reported
+abbrev pub IsTried : Order → Sink → Sink → Sink → Sink → ℕ → Type 0
+IsTried order out-old out-new err-old err-new status =
+    (status ≡ 0) × (out-new ≡ out-old) × Tries order.warnings err-old err-new
+
+-- an order isn't served; or, with `--check-only`, it is tried, and without that it is served
+abbrev pub ServesOrTries : Order → Sink → Sink → Sink → Sink → ℕ → Type 0
+ServesOrTries order out-old out-new err-old err-new status =
+    IsUnserved order out-old out-new err-old err-new status
+    ⊎ (((order.words.check_only ≡ true)
+    × IsTried order out-old out-new err-old err-new status)
+    ⊎ ((order.words.check_only ≡ false)
+    × Serves order out-old out-new err-old err-new status))

@@ -7,7 +7,7 @@ ghost use Rattle.cs_ruling.specs.declared.answer.Answer.TheVariants.{Runs};
 ghost use Rattle.cs_serve.specs.Anew.{Hinders, IsOfFiles, IsOrderOf, IsRejection, RunAnswers};
 ghost use Rattle.cs_serve.specs.Anew.{rejected_status, rejected_text, warned};
 
-use cs_args::RunWords;
+use cs_args::{CheckWords, RunWords};
 use cs_civil::Bytes;
 use cs_files::{Response, Status};
 use cs_io::{Inputs, Printer};
@@ -96,8 +96,14 @@ impl Rejection {
     }
 }
 
+/// Without an anacrontab the first is there twice.
+pub(crate) fn paths_of<'a>(files: &CheckWords<'a>) -> [&'a str; 4] {
+    let jobs = files.anacrontab.unwrap_or(files.table);
+    [files.table, files.declarations, files.certificate, jobs]
+}
+
 /// Whether one of these is there and isn't a file. A pipe would hold the daemon up.
-fn has_no_files<R: Files>(rt: &R, paths: &[&str]) -> bool {
+pub(crate) fn has_no_files<R: Files>(rt: &R, paths: &[&str]) -> bool {
     for path in paths {
         if let Ok(found) = fs::metadata(rt, *path) {
             if !found.is_file() {
@@ -108,7 +114,7 @@ fn has_no_files<R: Files>(rt: &R, paths: &[&str]) -> bool {
     false
 }
 
-fn has_log<R: Files>(rt: &R, log: Option<&str>) -> bool {
+pub(crate) fn has_log<R: Files>(rt: &R, log: Option<&str>) -> bool {
     match log {
         None | Some("-") => true,
         Some(path) => open_log(rt, path).is_ok(),
@@ -182,9 +188,7 @@ pub(crate) fn read_anew<'a, R: Files, I: Inputs>(
     ensures ending { IfErr result (IsRejection (asked_run words.entry)
         (I.whole inputs.old) (I.failed inputs.old) (I.failed inputs.new)) }
 {
-    let files = &words.check;
-    let jobs = files.anacrontab.unwrap_or(files.table);
-    let paths = [files.table, files.declarations, files.certificate, jobs];
+    let paths = paths_of(&words.check);
     if paths.contains(&"-") {
         return Err(Rejection::StandardInput);
     }
@@ -202,6 +206,7 @@ pub(crate) fn read_anew<'a, R: Files, I: Inputs>(
         Ok(Answer::Ends(response)) => Err(Rejection::Answered(response)),
         Ok(Answer::Stops(_)) => unreachable!(),
         Ok(Answer::Reloads(_)) => unreachable!(),
+        Ok(Answer::Applies { .. }) => unreachable!(),
         Ok(Answer::Tells(_)) => unreachable!(),
         Err(AllocError) => Err(Rejection::NoMemory),
     }
@@ -218,6 +223,7 @@ impl Accepted<'_> {
             checked,
             owners,
             warnings: notes,
+            declarations,
             digests,
             ..
         } = order;
@@ -226,6 +232,7 @@ impl Accepted<'_> {
             checked,
             owners,
             warnings,
+            declarations,
             words,
             digests,
         }

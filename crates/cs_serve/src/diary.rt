@@ -4,6 +4,7 @@ use cs_civil::{Minute, date_text};
 use cs_crontab::Line;
 use cs_daemon::Cause;
 use cs_machine::{ClockBack, JobNote, Remarks, RunLog, Setup, Tally, ToldFile};
+use cs_owner::Owner;
 use cs_ruling::Order;
 use cs_table::Setting;
 use std::alloc::{AllocError, Global};
@@ -131,12 +132,16 @@ pub(crate) fn setup_of<'a>(order: &Order<'a>, jobs: &'a [JobNote]) -> Setup<'a> 
         certificate: files.certificate,
         digest: order.digests.certificate,
         anacrontab: files.anacrontab,
+        output: words.output,
         capacity: u64::from(order.checked.plan().capacity()),
         offset: order.checked.plan().offset(),
         jobs,
         has_hooks: words.on_overrun.is_some()
             || words.on_failure.is_some()
-            || words.on_limit.is_some(),
+            || words.on_limit.is_some()
+            || words.on_success.is_some()
+            || words.on_recovered.is_some()
+            || words.mail.is_some(),
         has_limits: words.enforce,
     }
 }
@@ -187,10 +192,10 @@ fn mail_line(alloc: Global, setting: &Setting, table: &str) -> Result<Vec<u8>, A
     )
 }
 
-fn job_line(alloc: Global, line: &Line) -> Result<Vec<u8>, AllocError> {
+/// Of a line of the crontab: `front`, its number and this text.
+fn line_note(alloc: Global, front: &[u8], line: &Line, text: &[u8]) -> Result<Vec<u8>, AllocError> {
     let number = line.number().to_string(alloc)?;
-    let front = b"job line ".as_slice();
-    joined(alloc, &[front, number.as_bytes(), b": ", line.command()])
+    joined(alloc, &[front, number.as_bytes(), b": ", text])
 }
 
 impl<'a, 'r, R: Clock + Wait, W: Write> Hand<'a, 'r, R, W> {
@@ -207,18 +212,39 @@ impl<'a, 'r, R: Clock + Wait, W: Write> Hand<'a, 'r, R, W> {
         }
     }
 
-    fn note_mail(&mut self, alloc: Global, settings: &[Setting], table: &str) {
+    /// Of the settings after this line. Returns the line of the last one, if there is one.
+    fn note_mail(&mut self, alloc: Global, settings: &[Setting], table: &str, after: u32) -> u32 {
+        let mut last = after;
         for setting in settings {
-            if setting.name() == b"MAILTO".as_slice() && !setting.value().is_empty() {
+            let is_mail = setting.name() == b"MAILTO".as_slice() && !setting.value().is_empty();
+            if is_mail && setting.number() > last {
+                last = setting.number();
                 self.note_made(mail_line(alloc, setting, table));
             }
+        }
+        last
+    }
+
+    /// The settings of a gathered table stand in its comments, and each command has all above it.
+    fn note_owned_mail(&mut self, alloc: Global, owners: &[Owner]) {
+        let mut last = 0;
+        for owner in owners {
+            last = self.note_mail(alloc, owner.settings.as_slice(), "crontab", last);
+        }
+    }
+
+    /// The crontab's jobs come first, in the order of its lines.
+    fn note_jobs(&mut self, alloc: Global, lines: &[Line], jobs: &[JobNote]) {
+        for (line, job) in lines.iter().zip(jobs) {
+            self.note_made(line_note(alloc, b"job line ", line, line.command()));
+            self.note_made(line_note(alloc, b"called line ", line, job.name.as_slice()));
         }
     }
 
     /// Notes what a daemon begins with: its files and their digests, the settings that have no
-    /// effect, and the commands of its crontab, from which readers of the log know what its runs
-    /// are.
-    pub(crate) fn note_opening(&mut self, alloc: Global, order: &Order<'_>) {
+    /// effect, and the commands and names of its crontab, from which readers of the log know what
+    /// its runs are.
+    pub(crate) fn note_opening(&mut self, alloc: Global, order: &Order<'_>, jobs: &[JobNote]) {
         if let Ok(line) = opening(alloc, order) {
             self.note(line.as_slice());
         }
@@ -227,11 +253,10 @@ impl<'a, 'r, R: Clock + Wait, W: Write> Hand<'a, 'r, R, W> {
         self.note_made(digest_line(alloc, "declarations", &digests.declarations));
         self.note_made(digest_line(alloc, "certificate", &digests.certificate));
         let plan = order.checked.plan();
-        self.note_mail(alloc, plan.crontab().settings(), "crontab");
-        self.note_mail(alloc, plan.anacrontab().settings(), "anacrontab");
-        for line in plan.crontab().lines() {
-            self.note_made(job_line(alloc, line));
-        }
+        self.note_mail(alloc, plan.crontab().settings(), "crontab", 0);
+        self.note_owned_mail(alloc, order.owners.as_slice());
+        self.note_mail(alloc, plan.anacrontab().settings(), "anacrontab", 0);
+        self.note_jobs(alloc, plan.crontab().lines(), jobs);
     }
 }
 

@@ -1,14 +1,20 @@
 //! What a daemon says of the jobs of its plan.
-ghost use Rattle.std.specs.Prelude.{◌≡◌, ◌<◌, ◌++◌, IfOk, OnOk, drop, length, map, option_and_then, slice_get};
+ghost use Rattle.std.specs.Prelude.{◌≡◌, ◌<◌, ◌++◌, IfOk, OnOk, drop, length, option_and_then};
+ghost use Rattle.std.specs.Prelude.{slice_get};
+ghost use Rattle.cs_check.specs.Checked.{plan_in};
 ghost use Rattle.cs_plan.specs.Plan.{as_plan};
-ghost use Rattle.cs_history.specs.Lists.{below};
-ghost use Rattle.cs_serve.specs.Notes.{may_meet, note, peer, peers, schedule_in};
+ghost use Rattle.cs_serve.specs.Notes.{AreNotes, IsNote, command_of, may_meet, peer, peers};
+ghost use Rattle.cs_serve.specs.Notes.{schedule_in, user_of};
 
+use crate::names::name_of;
 use cs_civil::Bytes;
 use cs_crontab::When;
+use cs_decl::{CronEntry, read_declarations};
 use cs_jobs::{push_job_front, push_job_name};
 use cs_machine::JobNote;
+use cs_owner::Owner;
 use cs_plan::{Job, Plan};
+use cs_ruling::Order;
 use cs_schedule::Schedule;
 use std::alloc::{AllocError, Global};
 
@@ -73,9 +79,40 @@ fn schedule_of(plan: &Plan, number: usize) -> Option<Schedule>
     }
 }
 
-fn note(alloc: Global, plan: &Plan, number: usize) -> Result<JobNote, AllocError>
+fn command_of(plan: &Plan, number: usize) -> &[u8]
+    ensures { result.now ≡ command_of plan.now number }
+{
+    if let Some(line) = plan.crontab().lines().get(number) {
+        return line.command();
+    }
+    match plan
+        .anacrontab()
+        .lines()
+        .get(number - plan.crontab().lines().len())
+    {
+        Some(job) => job.command(),
+        None => b"".as_slice(),
+    }
+}
+
+fn user_of(alloc: Global, owners: &[Owner], number: usize) -> Result<Option<Bytes>, AllocError>
+    ensures { IfOk result (λ user. user ≡ user_of owners.now number) }
+{
+    match owners.get(number) {
+        Some(owner) => Ok(Some(Bytes::from_slice(alloc, owner.user.as_slice())?)),
+        None => Ok(None),
+    }
+}
+
+fn note(
+    alloc: Global,
+    plan: &Plan,
+    owners: &[Owner],
+    entries: &[CronEntry],
+    number: usize,
+) -> Result<JobNote, AllocError>
     requires { number < length plan.now.jobs }
-    ensures { IfOk result (λ n. n ≡ note plan.now number) }
+    ensures { IfOk result (IsNote plan.now owners.now number) }
 {
     let mut front = Vec::new(alloc);
     push_job_front(alloc, &mut front, plan, number)?;
@@ -84,17 +121,38 @@ fn note(alloc: Global, plan: &Plan, number: usize) -> Result<JobNote, AllocError
         max: u64::from(plan.jobs()[number].max()),
         when: schedule_of(plan, number),
         peers: peers(alloc, plan, number)?,
+        name: Bytes::from_slice(alloc, name_of(plan, entries, number))?,
+        command: Bytes::from_slice(alloc, command_of(plan, number))?,
+        user: user_of(alloc, owners, number)?,
     })
 }
 
-#[tactic(auto, using(crate::proofs::Peers::more_notes))]
-pub(crate) fn notes_of(alloc: Global, plan: &Plan) -> Result<Vec<JobNote>, AllocError>
-    ensures { IfOk result
-        (λ notes. notes.items ≡ map (note plan.now) (below (length plan.now.jobs))) }
+fn notes_by(
+    alloc: Global,
+    plan: &Plan,
+    owners: &[Owner],
+    entries: &[CronEntry],
+) -> Result<Vec<JobNote>, AllocError>
+    ensures { IfOk result (λ notes. AreNotes plan.now owners.now notes.items) }
 {
     let mut notes = Vec::new(alloc);
     for number in 0..plan.jobs().len() {
-        notes.push(note(alloc, plan, number)?)?;
+        notes.push(note(alloc, plan, owners, entries, number)?)?;
     }
     Ok(notes)
+}
+
+/// Of an order, whose declarations were read before: so only memory can run out.
+pub(crate) fn notes_of(alloc: Global, order: &Order<'_>) -> Result<Vec<JobNote>, AllocError>
+    ensures { IfOk result
+        (λ notes. AreNotes (plan_in order.now.checked) order.now.owners notes.items) }
+{
+    let Ok(declarations) = read_declarations(alloc, order.declarations.as_slice()) else {
+        return Err(AllocError);
+    };
+    let (plan, owners) = (order.checked.plan(), order.owners.as_slice());
+    let entries = declarations.entries().cron.as_slice();
+    let notes = notes_by(alloc, plan, owners, entries);
+    drop(declarations);
+    notes
 }

@@ -1,16 +1,19 @@
 //! Runs of checked tables on this machine.
-ghost use Rattle.std.specs.Prelude.{◌≡◌, if◌then◌else◌, IfOk, IfSome, IsTrue, None, Some, vec_len};
+ghost use Rattle.std.specs.Prelude.{◌≡◌, if◌then◌else◌, IfOk, IfSome, IsTrue, None, Some, true};
+ghost use Rattle.std.specs.Prelude.{vec_len};
 ghost use Rattle.cs_check.specs.Checked.{plan_in};
 ghost use Rattle.cs_daemon.specs.declared.end.Cause.TheVariants.{Stopped};
 ghost use Rattle.cs_files.specs.Response.{status_of};
 ghost use Rattle.cs_files.specs.Ending.{sink};
 ghost use Rattle.cs_args.specs.Asked.{asked_run};
 ghost use Rattle.cs_serve.specs.Serve.{IsFollowed, IsNextOf, IsRun, IsServedBy, Refuses};
-ghost use Rattle.cs_serve.specs.Serve.{RunsOutBehind, Serves, ServesOne, cause_status, farewell, taken_away};
+ghost use Rattle.cs_serve.specs.Serve.{RunsOutBehind, Serves, ServesOne, ServesOrTries};
+ghost use Rattle.cs_serve.specs.Serve.{cause_status, farewell, taken_away};
 
-use crate::anew::{Accepted, has_output};
+use crate::anew::{Accepted, has_log, has_output};
 use crate::diary::{Hand, closing, gap_line, setup_of};
 use crate::hooks::{Streams, call_hooks};
+use crate::keeping::keep_accepted;
 use crate::notes::notes_of;
 use crate::obstacle::Obstacle;
 use crate::watch::{DaemonFiles, Idle, Watch};
@@ -276,9 +279,11 @@ fn serve_on<
     let setup = setup_of(&order, jobs);
     let mut log = RunLog::new(rt, alloc, &mut *log, is_timed, setup);
     log.count_on(tally);
+    log.take_up(streams.remarks.take_records(rt));
     let log = Mutex::new(log);
     let mut hand = Hand::new(rt, &log, &files.state, streams.remarks);
-    hand.note_opening(alloc, &order);
+    hand.note_opening(alloc, &order, jobs);
+    keep_accepted(rt, alloc, &order, &mut hand);
     hand.keep_state();
     files.leave_running();
     let watch = Watch::new(
@@ -316,6 +321,9 @@ fn serve_on<
     }
     hand.keep_state();
     files.leave_word(log.lock(rt).last_word());
+    streams
+        .remarks
+        .keep_records(rt, log.lock(rt).take_records());
     let next = next_of(alloc, cause, rest, watch.accepted, &words, clock, &mut hand);
     drop(hand);
     drop(log);
@@ -366,7 +374,7 @@ fn serve_one<
         next.order) }
 {
     stamps.begin_anew();
-    let Ok(jobs) = notes_of(alloc, order.checked.plan()) else {
+    let Ok(jobs) = notes_of(alloc, &order) else {
         return (run_out_unserved(order, err), None);
     };
     let words = order.words;
@@ -377,6 +385,7 @@ fn serve_one<
         tells_signals: words.log.is_some(),
         output: words.output,
         keep: words.keep.unwrap_or(KEPT),
+        jobs: jobs.as_slice(),
         offset: enforced_at(&words, order.checked.plan().offset()),
     };
     let Ok(runners) = runners_by(alloc, number, setup, new_runner) else {
@@ -505,9 +514,35 @@ fn enter<'r, 'f, R: Files<File = File> + Clock + Wait>(
     Ok(stamps)
 }
 
+/// Reports the warnings of an order that could be run, unless its log can't be written.
+fn try_out<R: Files, O: Output, E: Output>(
+    rt: &R,
+    alloc: Global,
+    order: Order<'_>,
+    out: &mut O,
+    err: &mut E,
+) -> Status
+    requires { order.words.check_only ≡ true }
+    ensures { ServesOrTries order.entry
+        (sink (O.contents out.old) (O.failed out.old))
+        (sink (O.contents out.new) (O.failed out.new))
+        (sink (E.contents err.old) (E.failed err.old))
+        (sink (E.contents err.new) (E.failed err.new))
+        (status_of result) }
+{
+    if !has_log(rt, order.words.log) {
+        return refuse(alloc, order, Obstacle::NoLog, out, err);
+    }
+    tell(err, order.warnings.as_slice());
+    drop(order);
+    Status::Done
+}
+
 /// Runs an order until it ends, and returns the status. Nothing is run unless the folder of stamps
 /// is there and can be locked while the daemon runs. If the daemon is asked to reload, and accepts
 /// what its files hold then, that is run next. Warnings, and why it ended, go to standard error.
+/// With `--check-only` all is done that comes before the first event, and then the warnings alone
+/// are written.
 pub fn serve<
     R: Threads + Wait + Sync + Files<File = File> + Input + Clock + Processes,
     O: Output + Write + Send,
@@ -524,7 +559,7 @@ pub fn serve<
     new_runner: F,
 ) -> Status
     requires { F.IsAlwaysCallable new_runner }
-    ensures { Serves order.entry
+    ensures { ServesOrTries order.entry
         (sink (O.Output.contents out.old) (O.Output.failed out.old))
         (sink (O.Output.contents out.new) (O.Output.failed out.new))
         (sink (E.contents err.old) (E.failed err.old))
@@ -554,17 +589,21 @@ pub fn serve<
         &streams.remarks.runs,
     ) {
         Ok(mut stamps) => {
-            serve_in_turn(
-                rt,
-                alloc,
-                order,
-                streams,
-                &files,
-                &mut stamps,
-                out,
-                err,
-                &new_runner,
-            )
+            if order.words.check_only {
+                try_out(rt, alloc, order, out, err)
+            } else {
+                serve_in_turn(
+                    rt,
+                    alloc,
+                    order,
+                    streams,
+                    &files,
+                    &mut stamps,
+                    out,
+                    err,
+                    &new_runner,
+                )
+            }
         }
         Err(obstacle) => refuse(alloc, order, obstacle, out, err),
     }

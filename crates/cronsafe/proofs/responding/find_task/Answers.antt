@@ -97,6 +97,17 @@ returns-in_ok-planned-in-Make-clause-value g c = λ fresh.
     let planned = c.in_ok-planned-in-Make.planned in
     rw (c.in-Make.is) (w, told, (warns, ends_as (λ e is. inr (planned, came, subst (λ (v : Wanted). IsJudged v planned.plan planned.places e) c.wanted_of.ensures is))))
 
+pub returns-in_err-planned-in-Apply-clause-value : goal.returns-in_err-planned-in-Apply-clause-value
+returns-in_err-planned-in-Apply-clause-value g c = λ fresh.
+    let p = err_from_is_err_and c.from_residual-in_err-planned-in-Apply.result c.from_residual-in_err-planned-in-Apply.ensures.1 in
+    let (w, told, (warns, came)) = c.in_err-planned-in-Apply.ensures.value fresh in
+    rw (c.in-Apply.is, p.1, p.2) (w, told, (warns, IfSome_then (trouble c.in_err-planned-in-Apply.field-0.0) came (λ t is. inl (t, is, refl))))
+
+pub returns-in_ok-planned-in-Apply-clause-value : goal.returns-in_ok-planned-in-Apply-clause-value
+returns-in_ok-planned-in-Apply-clause-value g c = λ fresh.
+    let (w, told, (warns, came)) = c.in_ok-planned-in-Apply.ensures.value fresh in
+    rw (c.in-Apply.is) (w, told, (warns, λ answer is. inr (c.in_ok-planned-in-Apply.planned, came, is)))
+
 pub returns-in-Stop-clause-value : goal.returns-in-Stop-clause-value
 returns-in-Stop-clause-value g c = λ fresh. rw (c.in-Stop.is) ([], tries_nothing _, (refl, λ answer is. (refl, (c.in-Stop.words, refl, is))))
 

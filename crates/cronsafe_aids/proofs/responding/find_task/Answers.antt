@@ -122,6 +122,9 @@ returns-in-Stop-clause-value g c = λ fresh. rw (c.in-Stop.is) ([], tries_nothin
 pub returns-in-Reload-clause-value : goal.returns-in-Reload-clause-value
 returns-in-Reload-clause-value g c = λ fresh. rw (c.in-Reload.is) ([], tries_nothing _, (refl, λ e is. (refl, is.0, is.1)))
 
+pub returns-in-Apply-clause-value : goal.returns-in-Apply-clause-value
+returns-in-Apply-clause-value g c = λ fresh. rw (c.in-Apply.is) ([], tries_nothing _, (refl, λ e is. (refl, is.0, is.1)))
+
 pub returns-in-Status-clause-value : goal.returns-in-Status-clause-value
 returns-in-Status-clause-value g c = λ fresh. rw (c.in-Status.is) ([], tries_nothing _, (refl, λ e is. (refl, is.0, is.1)))
 

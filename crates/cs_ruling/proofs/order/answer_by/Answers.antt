@@ -37,6 +37,7 @@ returns g c =
     record {
       accepted = accepted c.args.claimed c.in-Ok.checked c.as_slice-listed.result.now c.in_ok-ruled.ruled c.as_slice-listed.ensures c.in-Ok.is r.answer r.same r.safe;
       owners = moved (λ text places table. AreOwnersOf text places table c.in-Ok-read_owners.owners) c.as_slice-text.result.now c.args.claimed.planned.table c.as_slice-listed.result.now c.args.claimed.planned.places c.crontab-crontab.result.now (plan_in c.in-Ok.checked).crontab c.as_slice-text.ensures c.as_slice-listed.ensures same c.in-Ok-read_owners.ensures.owners;
+      declarations = refl;
       words = refl;
       digests = refl;
       notes = c.in-Ok-plan_notes.ensures ∙ ap plan_notes c.plan-2.ensures;

@@ -4,7 +4,7 @@ use Rattle.std.proofs.lemmas.Result.{IfOk-weaker, MatchResult-weaker}
 use Rattle.cs_args.specs.Asked.{asked_run, AskedRun}
 use Rattle.cs_io.specs.Files.{Failed}
 use Rattle.cs_ruling.specs.declared.answer.Answer.{Answer}
-use Rattle.cs_ruling.specs.declared.answer.Answer.TheVariants.{Reloads, Runs, Stops, Tells}
+use Rattle.cs_ruling.specs.declared.answer.Answer.TheVariants.{Applies, Reloads, Runs, Stops, Tells}
 use Rattle.cs_ruling.specs.declared.answer.Order.{Order}
 use Rattle.cs_serve.specs.Anew.{Hinders, IsRejection, RunAnswers}
 use Rattle.cs_serve.specs.declared.anew.Rejection.{Rejection}
@@ -37,6 +37,13 @@ module _ (a : AskedRun) (files : List ℕ → Option (List ℕ)) (before failed 
 
   no_reload : (answer : Answer) (words : _) → answer ≡ Reloads words → RunAnswers a files before failed answer → ⊥
   no_reload answer words same is = not_reload words (moved answer (Reloads words) same is)
+
+  not_apply : (path folder made : _) → RunAnswers a files before failed (Applies path folder made) → ⊥
+  not_apply path folder made (w, inl (t, finds, never)) = never
+  not_apply path folder made (w, inr (x, finds, never)) = never
+
+  no_apply : (answer : Answer) (path folder made : _) → answer ≡ Applies path folder made → RunAnswers a files before failed answer → ⊥
+  no_apply answer path folder made same is = not_apply path folder made (moved answer (Applies path folder made) same is)
 
   not_status : (words : _) → RunAnswers a files before failed (Tells words) → ⊥
   not_status words (w, inl (t, finds, never)) = never
@@ -90,6 +97,14 @@ unreachable-requires-in-Ok-Reloads g c =
     let before = g.I.Inputs.failed c.args.inputs.now in
     let failed = g.I.Inputs.failed c.answer_anew.new.inputs in
     no_reload a files before failed _ _ c.in-Ok-Reloads.field-0-is c.in-Ok-Reloads.ensures
+
+pub unreachable-requires-in-Ok-Applies : goal.unreachable-requires-in-Ok-Applies
+unreachable-requires-in-Ok-Applies g c =
+    let a = asked_run c.args.words in
+    let files = g.I.Inputs.whole c.args.inputs.now in
+    let before = g.I.Inputs.failed c.args.inputs.now in
+    let failed = g.I.Inputs.failed c.answer_anew.new.inputs in
+    no_apply a files before failed _ _ _ _ c.in-Ok-Applies.field-0-is c.in-Ok-Applies.ensures
 
 pub unreachable-requires-in-Ok-Tells : goal.unreachable-requires-in-Ok-Tells
 unreachable-requires-in-Ok-Tells g c =

@@ -4,7 +4,7 @@ use Rattle.cs_ruling.specs.declared.answer.Order.{Order}
 use Rattle.cs_serve.proofs.anew.Accepted.order.Goals as goal
 
 abbrev with_warnings : Order → RunWords → List ℕ → Order
-with_warnings order words warnings = record { checked = order.checked; owners = order.owners; warnings = warnings; words = words; digests = order.digests }
+with_warnings order words warnings = record { checked = order.checked; owners = order.owners; warnings = warnings; declarations = order.declarations; words = words; digests = order.digests }
 
 pub returns : goal.returns
 returns c = record {

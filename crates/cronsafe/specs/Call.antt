@@ -1,7 +1,10 @@
 -- The answer to the words of a call.
-use Rattle.std.specs.Prelude.{◌≡◌, ◌⊎◌, ℕ, List, [], Option, Result, Ok, Err}
-use Rattle.clap.specs.Words.{Text}
+use Rattle.std.specs.Prelude.{◌≡◌, ◌≢◌, ◌⊎◌, ℕ, List, [], Option, Some, Result, Ok, Err}
+use Rattle.std.specs.Option.{option_map}
+use Rattle.cs_args.specs.Asked.{Text}
 use Rattle.cs_args.specs.Asked.{Apply, AskedApply, Asking, Check, Day, Help, Judge, Make, Reload}
+use Rattle.cs_args.specs.declared.request.Format.{Format}
+use Rattle.cs_args.specs.declared.request.Format.TheVariants.{Text as text}
 use Rattle.cs_args.specs.CommandLine.{Asks}
 use Rattle.cs_args.specs.Asked.{Replay, Run, Status, Stop}
 use Rattle.cs_args.specs.Asked.{asked_reload, asked_replay, asked_run, asked_status, asked_stop}
@@ -9,9 +12,11 @@ use Rattle.cs_args.specs.CommandLine.{AsksHelp, AsksVersion, IsNoCall}
 use Rattle.cs_io.specs.Files.{Failed}
 use Rattle.cs_files.specs.Asked.{FindsPlan}
 use Rattle.cs_files.specs.Response.{Ending}
-use Rattle.cs_files.specs.Trouble.{Trouble, ends}
+use Rattle.cs_files.specs.Trouble.{Trouble, ends, trouble}
+use Rattle.cs_files.specs.declared.fault.Fault.{Fault}
 use Rattle.cs_files.specs.declared.asked.Planned.{Planned}
 use Rattle.cs_files.specs.Usage.{IsRejected, ShowsHelp, ShowsVersion}
+use Rattle.cs_findings.specs.Format.{IsIn, IsShownAs}
 use Rattle.cs_show.specs.DayAnswer.{AnswersDay, shown}
 use Rattle.cs_show.specs.Replayed.{AnswersReplay, IsReplyTo}
 use Rattle.cs_ruling.specs.Answer.{AnswersRun, EndsAs, IsRuled}
@@ -19,7 +24,7 @@ use Rattle.cs_ruling.specs.Safe.{IsChecked, IsReplyOn}
 use Rattle.cs_ruling.specs.declared.answer.Answer.{Answer}
 use Rattle.cs_ruling.specs.declared.answer.Answer.TheVariants.{Applies, Ends, Reloads, Stops, Tells}
 use Rattle.cs_cli.specs.Judge.{AnswersJudge, AnswersMake, IsJudged}
-use Rattle.cs_judge.specs.declared.answers.Wanted.TheVariants.{Compact}
+use Rattle.cs_judge.specs.declared.answers.Wanted.TheVariants.{Compact, Verdict}
 use Rattle.cronsafe.specs.declared.responding.Task.{Task}
 use Rattle.cronsafe.specs.declared.responding.Task.TheVariants as task
 
@@ -46,7 +51,8 @@ abbrev pub AnswersAsked : Asking → (List ℕ → Option (List ℕ)) → List �
     → Type 0
 AnswersAsked (Day a) files w before failed = EndsAs (AnswersDay a files w before failed)
 AnswersAsked (Replay a) files w before failed = EndsAs (AnswersReplay a files w before failed)
-AnswersAsked (Check a) files w before failed = EndsAs (IsChecked a files w before failed)
+AnswersAsked (Check a) files w before failed =
+    EndsAs (IsIn a.format (IsChecked a files w before failed))
 AnswersAsked (Run a) files w before failed = AnswersRun a files w before failed
 AnswersAsked (Stop a) files w before failed = λ answer. (failed ≡ before)
     × ((words : _) × (asked_stop words ≡ a) × (answer ≡ Stops words))
@@ -55,7 +61,8 @@ AnswersAsked (Reload a) files w before failed = λ answer. (failed ≡ before)
 AnswersAsked (Apply a) files w before failed = AnswersApply a files w before failed
 AnswersAsked (Status a) files w before failed = λ answer. (failed ≡ before)
     × ((words : _) × (asked_status words ≡ a) × (answer ≡ Tells words))
-AnswersAsked (Judge a) files w before failed = EndsAs (AnswersJudge a files w before failed)
+AnswersAsked (Judge a) files w before failed =
+    EndsAs (IsIn a.format (AnswersJudge a files w before failed))
 AnswersAsked (Make a) files w before failed = EndsAs (AnswersMake a files w before failed)
 AnswersAsked Help files w before failed = EndsAs (ShowsHelp before failed)
 AnswersAsked aid files w before failed = EndsAs (IsRejected before failed)
@@ -64,9 +71,11 @@ AnswersAsked aid files w before failed = EndsAs (IsRejected before failed)
 abbrev pub IsReply : Task → Answer → Type 0
 IsReply (task.Day q tables) = EndsAs (λ ending. ending ≡ shown q tables)
 IsReply (task.Replay words found) = EndsAs (IsReplyTo (asked_replay words) found)
-IsReply (task.Check claimed) = EndsAs (IsReplyOn claimed)
+IsReply (task.Check words claimed) = EndsAs (IsIn words.format (IsReplyOn claimed))
 IsReply (task.Run words claimed) = IsRuled (asked_run words) claimed
-IsReply (task.Judge wanted planned) = EndsAs (IsJudged wanted planned.plan planned.places)
+IsReply (task.Judge words planned) =
+    EndsAs (IsIn words.format (IsJudged Verdict planned.plan planned.places))
+IsReply (task.Make wanted planned) = EndsAs (IsJudged wanted planned.plan planned.places)
 IsReply (task.Stop words) = λ answer. answer ≡ Stops words
 IsReply (task.Reload words) = λ answer. answer ≡ Reloads words
 IsReply (task.Apply certificate stamps planned) =
@@ -74,13 +83,25 @@ IsReply (task.Apply certificate stamps planned) =
 IsReply (task.Status words) = λ answer. answer ≡ Tells words
 IsReply task.Aid = EndsAs (λ ending. (ending.status ≡ 4) × (ending.out ≡ []))
 
+-- the format in which a call is answered: only `judge` and `check` have another one than text
+abbrev pub format_of : Asking → Format
+format_of (Check a) = a.format
+format_of (Judge a) = a.format
+format_of other = text
+
+-- the answer to a fault in a format; where its status isn't 3, it is as text
+abbrev pub IsFaultIn : Format → Fault → Ending → Type 0
+IsFaultIn format fault ending = (plain : Ending) × (option_map (ends []) (trouble fault) ≡ Some plain)
+    × IsShownAs format plain ending × (plain.status ≢ 3 → ending ≡ plain)
+
 -- what the files hold leads to the answer to a call: each reply to it is that, or it is a fault,
--- and that is reported
+-- and that is reported in the call's format
 abbrev pub Leads : Asking → (List ℕ → Option (List ℕ)) → List ℕ → Failed → Failed
     → Result Task Trouble → Type 0
 Leads a files w before failed (Ok task) =
     (answer : Answer) → IsReply task answer → AnswersAsked a files w before failed answer
-Leads a files w before failed (Err t) = AnswersAsked a files w before failed (Ends (ends [] t))
+Leads a files w before failed (Err t) = (ending : Ending)
+    → IsShownAs (format_of a) (ends [] t) ending → AnswersAsked a files w before failed (Ends ending)
 
 -- the answer to words: what they ask, help, the version, or that they aren't a call
 abbrev pub Answers : List Text → (List ℕ → Option (List ℕ)) → List ℕ → Failed → Failed → Answer

@@ -1,6 +1,6 @@
 -- What a run of the program writes, and its status.
 use Rattle.std.specs.Prelude.{◌⊎◌, ◌++◌, ℕ, List, Option, codes}
-use Rattle.clap.specs.Words.{Text}
+use Rattle.cs_args.specs.Asked.{Text}
 use Rattle.cs_io.specs.Files.{Failed, Reads}
 use Rattle.cs_ruling.specs.Answer.{IfEnds}
 use Rattle.cs_ruling.specs.declared.answer.Answer.{Answer}

@@ -1,6 +1,6 @@
 -- Which files a call reads, in which order, and the warnings before its answer.
 use Rattle.std.specs.Prelude.{◌≡◌, ◌⊎◌, ℕ, List, [], Option}
-use Rattle.clap.specs.Words.{Text}
+use Rattle.cs_args.specs.Asked.{Text}
 use Rattle.cs_args.specs.Asked.{Apply, Asking, Check, Day, Help, Judge, Make, Replay, Run}
 use Rattle.cs_args.specs.CommandLine.{Asks}
 use Rattle.cs_io.specs.Files.{AreReadInTurn, Failed, Reads}

@@ -6,18 +6,19 @@ ghost use Rattle.cs_ruling.specs.Answer.{IfEnds};
 ghost use Rattle.cs_files.specs.Asked.{Tells};
 ghost use Rattle.cs_files.specs.Ending.{sink};
 ghost use Rattle.cs_files.specs.Trouble.{CameTo, IsHonest, IsHonestOf};
-ghost use Rattle.cronsafe.specs.Call.{Answers, IsReply, Leads};
+ghost use Rattle.cronsafe.specs.Call.{Answers, IsFaultIn, IsReply, Leads, format_of};
 ghost use Rattle.cronsafe.specs.Turn.{ReadsAsked, ReadsInTurn, WarnsOf, WarnsOn};
 
 use cs_args::{
-    Question, ReloadWords, ReplayWords, Request, RunWords, StatusWords, StopWords, UsageFault,
-    parse_words,
+    CheckWords, Format, JudgeWords, Question, ReloadWords, ReplayWords, Request, RunWords,
+    StatusWords, StopWords, UsageFault, parse_words,
 };
 use cs_civil::Bytes;
-use cs_cli::{Wanted, answer_judge, wanted_of};
-use cs_files::{Fault, Planned, Response, Tables, find_plan, find_tables};
+use cs_cli::{Wanted, answer_judge, check_in_format, judge_in_format, wanted_of};
+use cs_files::{Fault, Planned, Response, Status, Tables, find_plan, find_tables};
+use cs_findings::{TableStatus, findings_of_fault, in_format, written};
 use cs_io::{Inputs, Output};
-use cs_ruling::{Answer, Claimed, answer_check, answer_run, find_claimed};
+use cs_ruling::{Answer, Claimed, answer_run, find_claimed};
 use cs_show::{Replayable, answer_day, answer_replay, find_script};
 use std::alloc::{AllocError, Global};
 use std::convert::AsStr;
@@ -28,9 +29,10 @@ use std::thread::Threads;
 pub(crate) enum Task<'a> {
     Day(Question, Tables),
     Replay(ReplayWords<'a>, Replayable),
-    Check(Claimed),
+    Check(CheckWords<'a>, Claimed),
     Run(RunWords<'a>, Claimed),
-    Judge(Wanted, Planned),
+    Judge(JudgeWords<'a>, Planned),
+    Make(Wanted, Planned),
     Stop(StopWords<'a>),
     Reload(ReloadWords<'a>),
     Apply {
@@ -71,7 +73,10 @@ fn find_task<'a, I: Inputs, E: Output>(
             let found = find_script(alloc, inputs, err, &words)?;
             Ok(Task::Replay(words, found))
         }
-        Request::Check(words) => Ok(Task::Check(find_claimed(alloc, inputs, err, &words)?)),
+        Request::Check(words) => {
+            let claimed = find_claimed(alloc, inputs, err, &words)?;
+            Ok(Task::Check(words, claimed))
+        }
         Request::Run(words) => {
             let claimed = find_claimed(alloc, inputs, err, &words.check)?;
             Ok(Task::Run(words, claimed))
@@ -79,13 +84,13 @@ fn find_task<'a, I: Inputs, E: Output>(
         Request::Judge(words) => {
             let (table, jobs, path) = (words.table, words.anacrontab, words.declarations);
             let planned = find_plan(alloc, inputs, err, table, jobs, path)?;
-            Ok(Task::Judge(Wanted::Verdict, planned))
+            Ok(Task::Judge(words, planned))
         }
         Request::Make(words) => {
             let judge = words.judge;
             let (table, jobs, path) = (judge.table, judge.anacrontab, judge.declarations);
             let planned = find_plan(alloc, inputs, err, table, jobs, path)?;
-            Ok(Task::Judge(wanted_of(words.compact), planned))
+            Ok(Task::Make(wanted_of(words.compact), planned))
         }
         Request::Apply(words) => {
             let judge = words.judge;
@@ -108,6 +113,10 @@ fn find_task<'a, I: Inputs, E: Output>(
         Request::Lint(_words) => Ok(Task::Aid),
         Request::Chart(_words) => Ok(Task::Aid),
         Request::Explain(_name) => Ok(Task::Aid),
+        Request::Diff(_words) => Ok(Task::Aid),
+        Request::Next(_words) => Ok(Task::Aid),
+        Request::JudgeAll(_words) => Ok(Task::Aid),
+        Request::LintAll(_words) => Ok(Task::Aid),
     }
 }
 
@@ -130,9 +139,14 @@ fn answer<'a, R: Threads + Sync>(
     match task {
         Task::Day(question, tables) => Ok(Answer::Ends(answer_day(alloc, question, &tables)?)),
         Task::Replay(words, found) => Ok(Answer::Ends(answer_replay(alloc, &words, found)?)),
-        Task::Check(claimed) => Ok(Answer::Ends(answer_check(rt, alloc, claimed)?)),
+        Task::Check(words, claimed) => {
+            Ok(Answer::Ends(check_in_format(rt, alloc, &words, claimed)?))
+        }
         Task::Run(words, claimed) => answer_run(rt, alloc, words, claimed),
-        Task::Judge(wanted, planned) => {
+        Task::Judge(words, planned) => {
+            Ok(Answer::Ends(judge_in_format(rt, alloc, &words, &planned)?))
+        }
+        Task::Make(wanted, planned) => {
             Ok(Answer::Ends(answer_judge(rt, alloc, &planned, wanted)?))
         }
         Task::Apply {
@@ -151,6 +165,64 @@ fn answer<'a, R: Threads + Sync>(
         Task::Reload(words) => Ok(Answer::Reloads(words)),
         Task::Status(words) => Ok(Answer::Tells(words)),
         Task::Aid => Ok(Answer::Ends(elsewhere(alloc)?)),
+    }
+}
+
+/// In which format a call is answered, and its files that findings name.
+#[derive(Clone, Copy)]
+struct Form<'a> {
+    format: Format,
+    table: &'a str,
+    certificate: &'a str,
+}
+
+fn form_of<'a>(request: &Request<'a>) -> Form<'a>
+    ensures { result.format ≡ format_of (asking request.now) }
+{
+    match request {
+        Request::Judge(words) => Form {
+            format: words.format,
+            table: words.table,
+            certificate: "",
+        },
+        Request::Check(words) => Form {
+            format: words.format,
+            table: words.table,
+            certificate: words.certificate,
+        },
+        _ => Form {
+            format: Format::Text,
+            table: "",
+            certificate: "",
+        },
+    }
+}
+
+/// The findings of a fault of what the files hold; empty as text.
+fn fault_out(alloc: Global, form: Form<'_>, fault: &Fault<'_>) -> Result<Vec<u8>, AllocError> {
+    if matches!(form.format, Format::Text) {
+        return Ok(Vec::new(alloc));
+    }
+    let findings = findings_of_fault(alloc, fault, form.certificate)?;
+    let table = TableStatus {
+        table: form.table,
+        status: Status::BadInput.code(),
+        verdict: None,
+    };
+    written(alloc, form.format, findings.as_slice(), &[table])
+}
+
+/// The answer to a fault. Only of a fault of what the files hold are there findings.
+fn answer_fault(alloc: Global, form: Form<'_>, fault: &Fault<'_>) -> Result<Response, AllocError>
+    ensures { IfOk result (IsFaultIn form.entry.format fault.now) }
+{
+    let plain = fault.response(alloc, b"".as_slice())?;
+    match plain.status() {
+        Status::BadInput => {
+            let out = fault_out(alloc, form, fault)?;
+            in_format(alloc, plain, form.format, out)
+        }
+        _ => Ok(plain),
     }
 }
 
@@ -177,10 +249,13 @@ pub(crate) fn respond<'a, R: Threads + Sync, S: AsStr, I: Inputs, E: Output>(
         (I.reads inputs.old) (I.reads inputs.new) }
 {
     match parse_words(alloc, words) {
-        Ok(request) => match find_task(alloc, request, inputs, err) {
-            Ok(task) => answer(rt, alloc, task),
-            Err(fault) => Ok(Answer::Ends(fault.response(alloc, b"".as_slice())?)),
-        },
+        Ok(request) => {
+            let form = form_of(&request);
+            match find_task(alloc, request, inputs, err) {
+                Ok(task) => answer(rt, alloc, task),
+                Err(fault) => Ok(Answer::Ends(answer_fault(alloc, form, &fault)?)),
+            }
+        }
         Err(UsageFault::Help(text)) => {
             Ok(Answer::Ends(Response::done(text.into_bytes(), Bytes::new(alloc))))
         }

@@ -1,13 +1,12 @@
 -- What a run of the program writes, and its status.
 use Rattle.std.specs.Prelude.{◌⊎◌, ℕ, List, Option}
-use Rattle.clap.specs.Words.{Text}
+use Rattle.cs_args.specs.Asked.{Text}
 use Rattle.cs_io.specs.Files.{Failed, Reads}
 use Rattle.cs_io.specs.Folders.{Tree}
 use Rattle.cs_files.specs.Asked.{Tells}
 use Rattle.cs_files.specs.Ending.{Ends, RunsOut, Sink}
 use Rattle.cs_files.specs.Response.{Ending}
-use Rattle.cs_files.specs.Trouble.{IsHonest}
-use Rattle.cronsafe_aids.specs.Call.{Answers}
+use Rattle.cronsafe_aids.specs.Call.{Answers, IsHonestOn}
 use Rattle.cronsafe_aids.specs.Turn.{WarnsOn}
 use Rattle.cronsafe_aids.specs.declared.now.Now.{Now}
 
@@ -16,7 +15,7 @@ abbrev pub Carries : Now → List Text → Tree → (List ℕ → Option (List �
     → Reads → Ending → Sink → Sink → Sink → Sink → ℕ → Type 0
 Carries now words tree files w before failed reads ending out-old out-new err-old err-new status =
     Answers now words tree files w before failed ending
-    × IsHonest failed reads ending
+    × IsHonestOn words failed reads ending
     × Ends ending out-old out-new err-old err-new status
 
 -- warnings are written if they can be; then the words are answered, or memory runs out

@@ -1,4 +1,5 @@
 //! The time, and the offset of local time.
+use cs_civil::{FIRST_MINUTE, LAST_MINUTE, Minute};
 use cs_table::MAX_TABLE;
 use jiff_core::{Error, Timestamp};
 use jiff_tz::{TimeZone, Tzif, posix};
@@ -15,6 +16,19 @@ pub(crate) struct Now {
     pub(crate) offset: i16,
     /// The instant, in whole seconds.
     pub(crate) instant: Timestamp,
+}
+
+impl Now {
+    /// The civil minute; the nearest that there is.
+    pub(crate) fn minute(self) -> Minute {
+        let minutes = self
+            .instant
+            .floor_second()
+            .div_euclid(60)
+            .saturating_add(i64::from(self.offset));
+        let number = u64::try_from(minutes).unwrap_or(0);
+        Minute::new(number.clamp(FIRST_MINUTE, LAST_MINUTE)).unwrap()
+    }
 }
 
 /// The machine's clock, if it can be read.

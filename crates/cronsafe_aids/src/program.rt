@@ -18,6 +18,9 @@ fn announce<E: Output>(alloc: Global, words: &[String], err: &mut E) {
                 b"cronsafe: judging changed plans, which can take a while\n".as_slice(),
             );
         }
+        Ok(Request::JudgeAll(_)) => {
+            let _ = err.print(b"cronsafe: judging all tables, which can take a while\n".as_slice());
+        }
         _ => {}
     }
 }
@@ -26,6 +29,8 @@ fn announce<E: Output>(alloc: Global, words: &[String], err: &mut E) {
 fn asks_time(alloc: Global, words: &[String]) -> bool {
     match parse_words(alloc, words) {
         Ok(Request::Lint(request)) => request.zone.is_some(),
+        Ok(Request::Next(request)) => request.from.is_none(),
+        Ok(Request::Diff(request)) => request.since.is_none(),
         _ => false,
     }
 }

@@ -11,13 +11,14 @@ use cs_files::{finish, run_out};
 use cs_io::{Folders, Output};
 use std::alloc::{AllocError, Global};
 use std::convert::AsStr;
+use std::rt::Files;
 use std::thread::Threads;
 
 /// Runs the program on its words, the first of which is its name. Returns the status of the
 /// process: 0 done, help or the version, 1 a finding, or a plan is unsafe, 2 unknown, 3 a fault in
 /// the words or in a file, 4 no call, 5 out of memory, 6 a file can't be read, or standard output
 /// can't be written.
-pub(crate) fn run_words<R: Threads + Sync, S: AsStr, I: Folders, O: Output, E: Output>(
+pub(crate) fn run_words<R: Threads + Sync + Files, S: AsStr, I: Folders, O: Output, E: Output>(
     rt: &R,
     alloc: Global,
     words: &[S],

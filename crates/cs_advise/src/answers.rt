@@ -1,6 +1,7 @@
 //! The subcommands `room` and `advise`.
 ghost use Rattle.std.specs.Prelude.{◌≡◌, ◌≢◌, ◌≤◌, IfOk, IfSome, length};
 ghost use Rattle.cs_files.specs.Response.{status_of};
+ghost use Rattle.cs_findings.specs.Format.{IsIn};
 ghost use Rattle.cs_counterexample.specs.Shown.{IsTellable};
 ghost use Rattle.cs_plan.specs.Plan.{as_plan};
 ghost use Rattle.cs_judge.specs.Judged.{IsJudgement};
@@ -10,13 +11,17 @@ ghost use Rattle.cs_advise.specs.Answer.{head_of};
 
 use crate::advice::{Advice, told_changes};
 use crate::breach::jobs_of;
+use crate::findings::{Said, told_findings};
 use crate::places::{changed_places, shown_places};
 use crate::rooms::rooms_text;
 use crate::search::Search;
 use crate::source::Source;
+use cs_args::{Format, JudgeWords};
 use cs_civil::Bytes;
+use cs_cli::{verdict_findings, verdict_word};
 use cs_counterexample::{Shown, shown_text};
 use cs_files::{Planned, Response, Status};
+use cs_findings::{TableStatus, in_format, written};
 use cs_judge::{Judged, Outcome, Wanted, answer, judge};
 use cs_place::Place;
 use cs_plan::Plan;
@@ -41,6 +46,8 @@ struct Reply {
     text: Vec<u8>,
     /// For standard error.
     notes: Vec<u8>,
+    /// Of what the lines of the text are.
+    said: Said,
 }
 
 fn broken_text(
@@ -113,6 +120,7 @@ fn told<R: Threads + Sync>(
                 status: Status::Done,
                 text: advice.text,
                 notes,
+                said: Said::Changes(advice.changes),
             });
         }
     }
@@ -122,6 +130,7 @@ fn told<R: Threads + Sync>(
         status: Status::Refused,
         text,
         notes,
+        said: Said::Verdict,
     })
 }
 
@@ -150,12 +159,12 @@ fn printed<R: Threads + Sync>(
     let notes = Vec::new(alloc);
     match judged {
         Judged::Safe(_) => {
-            let text = rooms_text(rt, alloc, plan, head_of(question))?;
-            let status = Status::Done;
+            let (text, jobs) = rooms_text(rt, alloc, plan, head_of(question))?;
             Ok(Reply {
-                status,
+                status: Status::Done,
                 text,
                 notes,
+                said: Said::Rooms(jobs),
             })
         }
         Judged::Unsafe(_, shown, breach) => {
@@ -171,37 +180,89 @@ fn printed<R: Threads + Sync>(
                 status,
                 text,
                 notes,
+                said: Said::Verdict,
             })
         }
     }
 }
 
+/// What the reply says, in the form that the words ask for; nothing as text, and if memory ran out.
+fn in_form(
+    alloc: Global,
+    words: &JudgeWords<'_>,
+    source: &Source,
+    planned: (&Plan, &[Place]),
+    judged: &Judged,
+    reply: &Reply,
+) -> Result<Vec<u8>, AllocError>
+    requires { IsJudgement planned.0.now judged.now }
+{
+    if words.format == Format::Text || reply.status == Status::NoMemory {
+        return Ok(Vec::new(alloc));
+    }
+    let (plan, places) = planned;
+    let findings = match &reply.said {
+        Said::Verdict => verdict_findings(alloc, words, plan, places, judged)?,
+        said => told_findings(alloc, words, source, plan, said, reply.text.as_slice())?,
+    };
+    let tables = [TableStatus {
+        table: words.table,
+        status: reply.status.code(),
+        verdict: Some(verdict_word(judged)),
+    }];
+    written(alloc, words.format, findings.as_slice(), tables.as_slice())
+}
+
+fn advised_on<R: Threads + Sync>(
+    rt: &R,
+    alloc: Global,
+    words: &JudgeWords<'_>,
+    source: &Source,
+    planned: (&Plan, &[Place]),
+    question: Question,
+    judged: &Judged,
+) -> Result<Response, AllocError>
+    requires { IsJudgement planned.0.now judged.now }
+    ensures { IfOk result (IsIn words.now.format
+        (IsAdvised question source.now planned.entry.0.now)) }
+{
+    let (plan, places) = planned;
+    let mut notes = plan_notes(alloc, plan)?.into_vec();
+    let reply = printed(rt, alloc, source, plan, places, question, judged)?;
+    notes.extend_from_slice(reply.notes.as_slice())?;
+    let out = in_form(alloc, words, source, planned, judged, &reply)?;
+    let plain = Response::told(reply.status, reply.text, Bytes::from_vec(notes));
+    in_format(alloc, plain, words.format, out)
+}
+
 fn advised<R: Threads + Sync>(
     rt: &R,
     alloc: Global,
+    words: &JudgeWords<'_>,
     source: &Source,
-    plan: &Plan,
-    places: &[Place],
+    planned: (&Plan, &[Place]),
     question: Question,
 ) -> Result<Response, AllocError>
-    ensures { IfOk result (IsAdvised question source.now plan.now) }
+    ensures { IfOk result (IsIn words.now.format
+        (IsAdvised question source.now planned.entry.0.now)) }
 {
-    let mut notes = plan_notes(alloc, plan)?.into_vec();
-    let judged = judge(rt, alloc, plan, Wanted::Verdict);
-    let told = printed(rt, alloc, source, plan, places, question, &judged)?;
-    notes.extend_from_slice(told.notes.as_slice())?;
-    Ok(Response::told(told.status, told.text, Bytes::from_vec(notes)))
+    let judged = judge(rt, alloc, planned.0, Wanted::Verdict);
+    let answer = advised_on(rt, alloc, words, source, planned, question, &judged);
+    drop(judged);
+    answer
 }
 
-/// Answers `room TABLE DECLS [--anacrontab FILE]` or `advise TABLE DECLS [--anacrontab FILE]
-/// [--within MINUTES] [--first N]`. The only error is out of memory.
+/// Answers `room TABLE DECLS [--anacrontab FILE] [--format FORMAT]` or `advise TABLE DECLS
+/// [--anacrontab FILE] [--within MINUTES] [--first N] [--format FORMAT]`. The only error is out of
+/// memory.
 pub fn answer_advise<R: Threads + Sync>(
     rt: &R,
     alloc: Global,
+    words: &JudgeWords<'_>,
     planned: Planned,
     question: Question,
 ) -> Result<Response, AllocError>
-    ensures advised { IfOk result (IsAdvisedOf question planned) }
+    ensures advised { IfOk result (IsIn words.now.format (IsAdvisedOf question planned)) }
     ensures done { IfOk result (λ r. r.status ≢ 6) }
 {
     let Planned {
@@ -214,5 +275,12 @@ pub fn answer_advise<R: Threads + Sync>(
         table,
         declarations,
     };
-    advised(rt, alloc, &source, &plan, places.as_slice(), question)
+    advised(
+        rt,
+        alloc,
+        words,
+        &source,
+        (&plan, places.as_slice()),
+        question,
+    )
 }

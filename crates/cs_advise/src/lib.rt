@@ -7,6 +7,7 @@ mod breach;
 mod change;
 mod changing;
 mod edit;
+mod findings;
 mod gap;
 mod label;
 mod later;
@@ -21,3 +22,5 @@ mod text;
 mod told;
 
 pub use answers::{Question, answer_advise};
+pub use room::Room;
+pub use rooms::each_room;

@@ -20,15 +20,16 @@ const GROWTH: u16 = 8;
 
 /// What a job of a safe plan has to spare, in minutes.
 #[derive(Clone, Copy)]
-pub(crate) struct Room {
-    pub(crate) job: u16,
+pub struct Room {
+    /// The number of the job in its plan.
+    pub job: u16,
     /// The declared longest time.
-    pub(crate) max: u16,
+    pub max: u16,
     /// The greatest longest time that was judged safe, all else as declared.
-    pub(crate) most: u16,
+    pub most: u16,
     /// The smallest gap between declared windows of the job and of others of its group; none
     /// without another one, and for anacron jobs.
-    pub(crate) gap: Option<i32>,
+    pub gap: Option<i32>,
 }
 
 fn is_safe_with<R: Threads + Sync>(

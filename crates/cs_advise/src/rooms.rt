@@ -13,8 +13,13 @@ use rayon::prelude::*;
 use std::alloc::{AllocError, Global};
 use std::thread::Threads;
 
-/// In the order of jobs, by several threads.
-fn each_room<R: Threads + Sync>(rt: &R, alloc: Global, plan: &Plan) -> Result<Vec<Room>, AllocError>
+/// The room of each job of a safe plan, in the order of jobs, found by several threads. The only
+/// error is out of memory.
+pub fn each_room<R: Threads + Sync>(
+    rt: &R,
+    alloc: Global,
+    plan: &Plan,
+) -> Result<Vec<Room>, AllocError>
     requires { IsCalledSafe plan.now }
     ensures jobs { IfOk result
         (λ rooms. map (λ room. room.job) rooms.items ≡ range_with_len 0 (length plan.now.jobs)) }
@@ -76,22 +81,24 @@ fn room_line(alloc: Global, plan: &Plan, room: Room) -> Result<Vec<u8>, AllocErr
 }
 
 /// A line for each job of a safe plan after the head: first those with the least slack, and among
-/// these in the order of jobs.
+/// these in the order of jobs. The jobs come with it, in the order of their lines.
 pub(crate) fn rooms_text<R: Threads + Sync>(
     rt: &R,
     alloc: Global,
     plan: &Plan,
     head: &[u8],
-) -> Result<Vec<u8>, AllocError>
+) -> Result<(Vec<u8>, Vec<u16>), AllocError>
     requires { IsCalledSafe plan.now }
-    ensures { IfOk result (λ out. TellsRooms plan.now head.now out.items) }
+    ensures { IfOk result (λ told. TellsRooms plan.now head.now told.0.items) }
 {
     let rooms = rooms_of(rt, alloc, plan)?;
     let each = rooms.as_slice();
     let mut text = Vec::from_slice(alloc, head)?;
+    let mut jobs = Vec::new(alloc);
     for room in each {
         let line = room_line(alloc, plan, *room)?;
         text.extend_from_slice(line.as_slice())?;
+        jobs.push(room.job)?;
     }
-    Ok(text)
+    Ok((text, jobs))
 }

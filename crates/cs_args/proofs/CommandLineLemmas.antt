@@ -1,6 +1,7 @@
 -- The words of a call.
 use Rattle.std.proofs.Common.{◌≡◌, ◌<◌, ◌≤◌, ◌+◌, ◌-◌, ◌^◌, ℕ, zero, suc, arith, drop, fold, map, slice_index_or, Bool, true, false, List, [], ◌∷◌, ◌&&◌, ◌∙◌, Option, option_map, option_and_then, Some, None, Result, Ok, Err, refl, ap, subst, sym, length, nat_lt, inl, inr}
-use Rattle.std.specs.List.{list_all}
+use Rattle.std.specs.List.{list_all, slice_get}
+use Rattle.std.proofs.lemmas.Option.{slice_get-map}
 use Rattle.std.specs.Char.{is_ascii_digit}
 use Rattle.std.specs.Str.{all_ascii_digits}
 use Rattle.std.specs.Str.Parse.{ParsesUnsigned, digits_value}
@@ -134,3 +135,6 @@ is_known = refl
 pub is_told : is_simple cronsafe_app ≡ true
 unfolding all_subcommands cronsafe_app top_app
 is_told = refl
+
+pub second_mapped : {A : Type 0} → {B : Type 0} (v : A → B) (xs : List A) → slice_get (map v xs) 1 ≡ option_map v (slice_get xs 1)
+second_mapped v xs = slice_get-map v xs 1

@@ -2,16 +2,20 @@
 -- field is.
 use Rattle.std.specs.Prelude.{ℕ, Bool, List, Option, map, option_map}
 use Rattle.cs_args.specs.declared.request.AdviseWords.{AdviseWords}
+use Rattle.cs_args.specs.declared.request.AllWords.{AllWords}
 use Rattle.cs_args.specs.declared.request.ApplyWords.{ApplyWords}
 use Rattle.cs_args.specs.declared.request.ChartWords.{ChartWords}
 use Rattle.cs_args.specs.declared.request.CheckWords.{CheckWords}
 use Rattle.cs_args.specs.declared.request.DayWords.{DayWords}
+use Rattle.cs_args.specs.declared.request.DiffWords.{DiffWords}
 use Rattle.cs_args.specs.declared.request.DraftWords.{DraftWords}
+use Rattle.cs_args.specs.declared.request.Format.{Format}
 use Rattle.cs_args.specs.declared.request.GatherWords.{GatherWords}
 use Rattle.cs_args.specs.declared.request.JudgeWords.{JudgeWords}
 use Rattle.cs_args.specs.declared.request.LearnWords.{LearnWords}
 use Rattle.cs_args.specs.declared.request.LintWords.{LintWords}
 use Rattle.cs_args.specs.declared.request.MakeWords.{MakeWords}
+use Rattle.cs_args.specs.declared.request.NextWords.{NextWords}
 use Rattle.cs_args.specs.declared.request.ReplayWords.{ReplayWords}
 use Rattle.cs_args.specs.declared.request.Request.TheVariants as request
 use Rattle.cs_args.specs.declared.request.Request.{Request}
@@ -46,6 +50,7 @@ pub record AskedCheck : Type 0 where
   pub declarations : Text
   pub certificate : Text
   pub anacrontab : Option Text
+  pub format : Format
 
 pub record AskedRun : Type 0 where
   pub check : AskedCheck
@@ -82,6 +87,27 @@ pub record AskedJudge : Type 0 where
   pub table : Text
   pub declarations : Text
   pub anacrontab : Option Text
+  pub format : Format
+
+pub record AskedAll : Type 0 where
+  pub folders : List Text
+  pub only : List Text
+  pub except : List Text
+  pub faults_only : Bool
+  pub format : Format
+
+pub record AskedDiff : Type 0 where
+  pub old : AskedJudge
+  pub new : AskedJudge
+  pub since : Option Text
+  pub markdown : Bool
+
+pub record AskedNext : Type 0 where
+  pub table : Text
+  pub anacrontab : Option Text
+  pub count : ℕ
+  pub from : Option Text
+  pub json : Bool
 
 pub record AskedApply : Type 0 where
   pub judge : AskedJudge
@@ -123,6 +149,7 @@ pub record AskedLint : Type 0 where
   pub only : List Text
   pub except : List Text
   pub faults_only : Bool
+  pub format : Format
 
 pub record AskedChart : Type 0 where
   pub day : Asked
@@ -149,6 +176,10 @@ pub data Asking : Type 0 where
   Lint : AskedLint → Asking
   Chart : AskedChart → Asking
   Explain : Option Text → Asking
+  JudgeAll : AskedAll → Asking
+  LintAll : AskedAll → Asking
+  Diff : AskedDiff → Asking
+  Next : AskedNext → Asking
   Help : Asking
 
 abbrev pub asked : DayWords → Asked
@@ -179,6 +210,7 @@ asked_check c = record {
   declarations = c.declarations.now;
   certificate = c.certificate.now;
   anacrontab = option_map (λ path. path.now) c.anacrontab;
+  format = c.format;
 }
 
 abbrev pub asked_run : RunWords → AskedRun
@@ -215,6 +247,33 @@ asked_judge j = record {
   table = j.table.now;
   declarations = j.declarations.now;
   anacrontab = option_map (λ path. path.now) j.anacrontab;
+  format = j.format;
+}
+
+abbrev pub asked_all : AllWords → AskedAll
+asked_all a = record {
+  folders = map (λ path. path.now) a.folders.items;
+  only = map (λ name. name.now) a.only.items;
+  except = map (λ name. name.now) a.except.items;
+  faults_only = a.faults_only;
+  format = a.format;
+}
+
+abbrev pub asked_diff : DiffWords → AskedDiff
+asked_diff d = record {
+  old = asked_judge d.old;
+  new = asked_judge d.new;
+  since = option_map (λ date. date.now) d.since;
+  markdown = d.markdown;
+}
+
+abbrev pub asked_next : NextWords → AskedNext
+asked_next n = record {
+  table = n.table.now;
+  anacrontab = option_map (λ path. path.now) n.anacrontab;
+  count = n.count;
+  from = option_map (λ minute. minute.now) n.from;
+  json = n.json;
 }
 
 abbrev pub asked_apply : ApplyWords → AskedApply
@@ -263,6 +322,7 @@ asked_lint l = record {
   only = map (λ name. name.now) l.only.items;
   except = map (λ name. name.now) l.except.items;
   faults_only = l.faults_only;
+  format = l.format;
 }
 
 abbrev pub asked_chart : ChartWords → AskedChart
@@ -290,4 +350,8 @@ asking (request.Draft d) = Draft (asked_draft d)
 asking (request.Learn l) = Learn (asked_learn l)
 asking (request.Lint l) = Lint (asked_lint l)
 asking (request.Chart c) = Chart (asked_chart c)
+asking (request.JudgeAll a) = JudgeAll (asked_all a)
+asking (request.LintAll a) = LintAll (asked_all a)
+asking (request.Diff d) = Diff (asked_diff d)
+asking (request.Next n) = Next (asked_next n)
 asking (request.Explain name) = Explain (option_map (λ name. name.now) name)

@@ -5,6 +5,7 @@ use Rattle.std.specs.Str.Parse.{digits_value}
 use Rattle.std.specs.Char.{is_ascii_digit}
 use Rattle.std.specs.List.{list_all, list_any}
 use Rattle.std.specs.Option.{option_map_or}
+use Rattle.std.specs.List.{slice_get}
 use Rattle.std.specs.Str.{bytes_eq}
 use Rattle.clap.specs.Words.{App, IsAmong, Row, Rule, all_of, fault_of, first_of, kind_of, new_app, new_rule, subcommand_of, with_rule, with_subcommand}
 use Rattle.clap.specs.Simple.{on_top}
@@ -13,8 +14,10 @@ use Rattle.clap.specs.declared.error.Error.{Error}
 use Rattle.clap.specs.declared.error.kind.ErrorKind.{ErrorKind}
 use Rattle.clap.specs.declared.error.kind.ErrorKind.TheVariants.{DisplayHelp, DisplayVersion}
 use Rattle.clap.specs.declared.error.kind.ErrorKind.TheVariants as kind
-use Rattle.cs_args.specs.Asked.{Asked, AskedAdvise, AskedApply, AskedChart, AskedCheck, AskedDraft, AskedGather, AskedJudge, AskedLearn, AskedLint, AskedMake, AskedReload, AskedReplay, AskedRun, AskedStatus, AskedStop, Text, asking}
-use Rattle.cs_args.specs.Asked.{Advise, Apply, Asking, Chart, Check, Day, Draft, Explain, Gather, Help as HelpAsking, Judge, Learn, Lint, Make, Reload, Replay, Room, Run, Status, Stop}
+use Rattle.cs_args.specs.Asked.{Asked, AskedAdvise, AskedAll, AskedApply, AskedChart, AskedCheck, AskedDiff, AskedDraft, AskedGather, AskedJudge, AskedLearn, AskedLint, AskedMake, AskedNext, AskedReload, AskedReplay, AskedRun, AskedStatus, AskedStop, Text, asking}
+use Rattle.cs_args.specs.Asked.{Advise, Apply, Asking, Chart, Check, Day, Diff, Draft, Explain, Gather, Help as HelpAsking, Judge, JudgeAll, Learn, Lint, LintAll, Make, Next, Reload, Replay, Room, Run, Status, Stop}
+use Rattle.cs_args.specs.declared.request.Format.{Format}
+use Rattle.cs_args.specs.declared.request.Format.TheVariants as format
 use Rattle.cs_args.specs.declared.request.Request.{Request}
 use Rattle.cs_args.specs.declared.request.UsageFault.TheVariants.{Help, NoCall, OutOfMemory, Version}
 use Rattle.cs_args.specs.declared.request.UsageFault.{UsageFault}
@@ -38,15 +41,22 @@ value id = record (new_rule (codes id)) { long = Some (codes id); value_names = 
 abbrev pub values : String → Rule
 values id = record (value id) { action = Some Append }
 
+-- `--NAME OLD NEW`
+abbrev pub pair : String → Rule
+pair id = record (new_rule (codes id)) { long = Some (codes id); value_names = 2 }
+
 abbrev pub flag : String → Rule
 flag id = record (new_rule (codes id)) { long = Some (codes id); action = Some SetTrue }
 
 -- the name of a subcommand and its arguments
 abbrev pub usage_of : Subcommand → Text × List Rule
-usage_of subcommand.Judge = (codes "judge", word "TABLE" ∷ word "DECLS" ∷ value "anacrontab" ∷ [])
+usage_of subcommand.Judge = (
+  codes "judge",
+  word "TABLE" ∷ word "DECLS" ∷ value "anacrontab" ∷ value "format" ∷ [],
+)
 usage_of subcommand.Check = (
   codes "check",
-  word "TABLE" ∷ word "DECLS" ∷ word "CERT" ∷ value "anacrontab" ∷ [],
+  word "TABLE" ∷ word "DECLS" ∷ word "CERT" ∷ value "anacrontab" ∷ value "format" ∷ [],
 )
 usage_of subcommand.Make = (
   codes "make",
@@ -54,9 +64,13 @@ usage_of subcommand.Make = (
 )
 usage_of subcommand.Advise = (
   codes "advise",
-  word "TABLE" ∷ word "DECLS" ∷ value "anacrontab" ∷ value "within" ∷ value "first" ∷ [],
+  word "TABLE" ∷ word "DECLS" ∷ value "anacrontab" ∷ value "within" ∷ value "first" ∷
+      value "format" ∷ [],
 )
-usage_of subcommand.Room = (codes "room", word "TABLE" ∷ word "DECLS" ∷ value "anacrontab" ∷ [])
+usage_of subcommand.Room = (
+  codes "room",
+  word "TABLE" ∷ word "DECLS" ∷ value "anacrontab" ∷ value "format" ∷ [],
+)
 usage_of subcommand.Run = (
   codes "run",
   word "TABLE" ∷ word "DECLS" ∷ word "CERT" ∷ word "STAMPS" ∷ value "anacrontab" ∷
@@ -85,7 +99,7 @@ usage_of subcommand.Learn = (
 usage_of subcommand.Lint = (
   codes "lint",
   word "TABLE" ∷ optional_word "DECLS" ∷ value "anacrontab" ∷ value "zone" ∷ values "only" ∷
-      values "except" ∷ flag "faults-only" ∷ [],
+      values "except" ∷ flag "faults-only" ∷ value "format" ∷ [],
 )
 usage_of subcommand.Day = (
   codes "day",
@@ -103,6 +117,20 @@ usage_of subcommand.Replay = (
       flag "judge" ∷ flag "log" ∷ flag "script" ∷ [],
 )
 usage_of subcommand.Explain = (codes "explain", optional_word "NAME" ∷ [])
+usage_of subcommand.JudgeAll = (codes "judge --all", words "FOLDER" ∷ value "format" ∷ [])
+usage_of subcommand.LintAll = (
+  codes "lint --all",
+  words "FOLDER" ∷ values "only" ∷ values "except" ∷ flag "faults-only" ∷ value "format" ∷ [],
+)
+usage_of subcommand.Diff = (
+  codes "diff",
+  word "OLD_TABLE" ∷ word "OLD_DECLS" ∷ word "NEW_TABLE" ∷ word "NEW_DECLS" ∷
+      pair "anacrontab" ∷ value "since" ∷ value "format" ∷ [],
+)
+usage_of subcommand.Next = (
+  codes "next",
+  word "TABLE" ∷ value "anacrontab" ∷ value "count" ∷ value "from" ∷ flag "json" ∷ [],
+)
 usage_of subcommand.Help = (codes "help", optional_word "COMMAND" ∷ [])
 
 abbrev pub name_of : Subcommand → Text
@@ -117,7 +145,8 @@ all_subcommands =
     subcommand.Judge ∷ subcommand.Check ∷ subcommand.Make ∷ subcommand.Advise ∷ subcommand.Room ∷
     subcommand.Run ∷ subcommand.Stop ∷ subcommand.Reload ∷ subcommand.Apply ∷ subcommand.Status ∷
     subcommand.Gather ∷ subcommand.Draft ∷ subcommand.Learn ∷ subcommand.Lint ∷ subcommand.Day ∷
-    subcommand.Chart ∷ subcommand.Replay ∷ subcommand.Explain ∷ subcommand.Help ∷ []
+    subcommand.Chart ∷ subcommand.Replay ∷ subcommand.Explain ∷ subcommand.JudgeAll ∷
+    subcommand.LintAll ∷ subcommand.Diff ∷ subcommand.Next ∷ subcommand.Help ∷ []
 
 -- the arguments whose value is a number below 2 ^ 64, in decimal digits
 abbrev pub numbers : List Text
@@ -125,12 +154,18 @@ numbers =
     codes "MAX" ∷ codes "from" ∷ codes "to" ∷ codes "days" ∷ codes "max" ∷ codes "minutes" ∷
     codes "keep" ∷ codes "within" ∷ codes "first" ∷ []
 
+-- the `--from` of `next` is a date
+abbrev pub numbers_of : Subcommand → List Text
+numbers_of subcommand.Next = codes "count" ∷ []
+numbers_of _ = numbers
+
 -- the arguments at which - is standard input, in one of them at most
 abbrev pub inputs : List Text
 inputs =
     codes "TABLE" ∷ codes "DECLS" ∷ codes "CERT" ∷ codes "SCRIPT" ∷ codes "LOG" ∷
     codes "anacrontab" ∷ codes "declarations" ∷ codes "update" ∷ codes "max-from" ∷ codes "zone" ∷
-    codes "system" ∷ codes "user" ∷ []
+    codes "system" ∷ codes "user" ∷ codes "OLD_TABLE" ∷ codes "OLD_DECLS" ∷ codes "NEW_TABLE" ∷
+    codes "NEW_DECLS" ∷ []
 
 -- `cronsafe`: it has a version, and requires a subcommand; its `help` is not that of `clap`
 unfoldable pub top_app : App
@@ -200,6 +235,31 @@ abbrev pub has_unknown_name : List Row → Bool
 has_unknown_name rows =
     option_map_or (λ name. is_none (subcommand_named name)) (first_of (codes "COMMAND") rows) false
 
+abbrev pub format_named : Text → Option Format
+format_named name =
+    if bytes_eq name (codes "text") then Some format.Text
+    else if bytes_eq name (codes "json") then Some format.Json
+    else if bytes_eq name (codes "sarif") then Some format.Sarif
+    else if bytes_eq name (codes "github") then Some format.Github
+    else None
+
+-- the format of findings: lines for people where none is named
+abbrev pub format_in : List Row → Format
+format_in rows = unwrap_or (option_and_then format_named (first_of (codes "format") rows)) format.Text
+
+-- `--format` has no name that the subcommand knows
+abbrev pub is_unfit : Subcommand → Text → Bool
+is_unfit subcommand.Diff name =
+    not (bytes_eq name (codes "text")) && not (bytes_eq name (codes "markdown"))
+is_unfit _ name = is_none (format_named name)
+
+abbrev pub has_unfit_format : Subcommand → List Row → Bool
+has_unfit_format s rows = option_map_or (is_unfit s) (first_of (codes "format") rows) false
+
+-- the second value of an argument
+abbrev pub second_of : Text → List Row → Option Text
+second_of id rows = slice_get (values_in id rows) 1
+
 -- `chart` has neither MAX nor declarations, or `gather` no path
 abbrev pub lacks : Subcommand → List Row → Bool
 lacks subcommand.Chart rows =
@@ -210,7 +270,8 @@ lacks subcommand.Gather rows =
 lacks _ rows = false
 
 -- `--keep` or `--mail` without `--output`, `--json` with `--metrics`, standard input twice,
--- `--script` without `--log`, or a number out of its range
+-- `--script` without `--log`, or a number out of its range: the days of `chart`, the minutes and
+-- changes of `advise`, the starts of `next`
 abbrev pub is_misfit : List Row → Bool
 is_misfit rows =
     (is_given (codes "keep") rows && not (is_given (codes "output") rows))
@@ -222,12 +283,16 @@ is_misfit rows =
     || ((number_or 1 (codes "days") rows == 0 || nat_lt 7 (number_or 1 (codes "days") rows))
     || ((number_or 120 (codes "within") rows == 0
     || nat_lt 1439 (number_or 120 (codes "within") rows))
-    || number_or 1 (codes "first") rows == 0)))))))
+    || (number_or 1 (codes "first") rows == 0
+    || (number_or 10 (codes "count") rows == 0
+    || nat_lt 10000 (number_or 10 (codes "count") rows))))))))))
 
 -- the words of a subcommand are wrong, though they have its form
 abbrev pub is_wrong : Subcommand → List Row → Bool
 is_wrong s rows =
-    lacks s rows || (has_no_number numbers rows || (has_unknown_name rows || is_misfit rows))
+    lacks s rows
+    || (has_no_number (numbers_of s) rows
+    || (has_unknown_name rows || (has_unfit_format s rows || is_misfit rows)))
 
 -- what words that aren't wrong ask: of a day with this longest time where none is given
 abbrev pub day_in : ℕ → List Row → Asked
@@ -246,6 +311,7 @@ check_in rows = record {
   declarations = value_or [] (codes "DECLS") rows;
   certificate = value_or [] (codes "CERT") rows;
   anacrontab = first_of (codes "anacrontab") rows;
+  format = format_in rows;
 }
 
 abbrev pub judge_in : List Row → AskedJudge
@@ -253,6 +319,33 @@ judge_in rows = record {
   table = value_or [] (codes "TABLE") rows;
   declarations = value_or [] (codes "DECLS") rows;
   anacrontab = first_of (codes "anacrontab") rows;
+  format = format_in rows;
+}
+
+abbrev pub all_in : List Row → AskedAll
+all_in rows = record {
+  folders = values_in (codes "FOLDER") rows;
+  only = values_in (codes "only") rows;
+  except = values_in (codes "except") rows;
+  faults_only = has_flag (codes "faults-only") rows;
+  format = format_in rows;
+}
+
+-- the files of `diff` before and after
+abbrev pub old_in : List Row → AskedJudge
+old_in rows = record {
+  table = value_or [] (codes "OLD_TABLE") rows;
+  declarations = value_or [] (codes "OLD_DECLS") rows;
+  anacrontab = first_of (codes "anacrontab") rows;
+  format = format.Text;
+}
+
+abbrev pub new_in : List Row → AskedJudge
+new_in rows = record {
+  table = value_or [] (codes "NEW_TABLE") rows;
+  declarations = value_or [] (codes "NEW_DECLS") rows;
+  anacrontab = second_of (codes "anacrontab") rows;
+  format = format.Text;
 }
 
 abbrev pub asked_in : Subcommand → List Row → Asking
@@ -345,6 +438,22 @@ asked_in subcommand.Lint rows = Lint (record {
   only = values_in (codes "only") rows;
   except = values_in (codes "except") rows;
   faults_only = has_flag (codes "faults-only") rows;
+  format = format_in rows;
+})
+asked_in subcommand.JudgeAll rows = JudgeAll (all_in rows)
+asked_in subcommand.LintAll rows = LintAll (all_in rows)
+asked_in subcommand.Diff rows = Diff (record {
+  old = old_in rows;
+  new = new_in rows;
+  since = first_of (codes "since") rows;
+  markdown = bytes_eq (value_or [] (codes "format") rows) (codes "markdown");
+})
+asked_in subcommand.Next rows = Next (record {
+  table = value_or [] (codes "TABLE") rows;
+  anacrontab = first_of (codes "anacrontab") rows;
+  count = number_or 10 (codes "count") rows;
+  from = first_of (codes "from") rows;
+  json = has_flag (codes "json") rows;
 })
 asked_in subcommand.Explain rows = Explain (first_of (codes "NAME") rows)
 asked_in subcommand.Help rows = HelpAsking

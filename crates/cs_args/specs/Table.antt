@@ -21,6 +21,7 @@ rule_taking takes.Flag id = record (new_rule id) { long = Some id; action = Some
 rule_taking (takes.Value name) id = record (new_rule id) { long = Some id; value_names = 1 }
 rule_taking (takes.Values name) id =
     record (new_rule id) { long = Some id; value_names = 1; action = Some Append }
+rule_taking takes.Pair id = record (new_rule id) { long = Some id; value_names = 2 }
 
 abbrev pub rule_in : Argument → Rule
 rule_in a = rule_taking a.1 a.0.now

@@ -1,25 +1,28 @@
 //! What the words of a call ask.
 ghost use Rattle.std.specs.Prelude.{◌≡◌, IfOk, Some, count_by, is_some, map, option_map};
 ghost use Rattle.std.specs.Char.{is_ascii_digit};
-ghost use Rattle.std.specs.List.{list_all};
+ghost use Rattle.std.specs.List.{list_all, slice_get};
 ghost use Rattle.clap.specs.Words.{first_of, found_of, rows_of};
-ghost use Rattle.cs_args.specs.Asked.{Advise, Chart, Draft, Gather, Learn, Lint, Replay, Run};
-ghost use Rattle.cs_args.specs.Asked.{asked, asked_advise, asked_chart, asked_check, asked_draft};
-ghost use Rattle.cs_args.specs.Asked.{asked_gather, asked_judge, asked_learn, asked_lint};
+ghost use Rattle.cs_args.specs.Asked.{Advise, Chart, Diff, Draft, Gather, Learn, Lint, Next};
+ghost use Rattle.cs_args.specs.Asked.{Replay, Run, asked, asked_advise, asked_all, asked_chart};
+ghost use Rattle.cs_args.specs.Asked.{asked_check, asked_diff, asked_draft, asked_gather};
+ghost use Rattle.cs_args.specs.Asked.{asked_judge, asked_learn, asked_lint, asked_next};
 ghost use Rattle.cs_args.specs.Asked.{asked_replay, asked_run};
-ghost use Rattle.cs_args.specs.CommandLine.{Answers, FaultOf, Parses, asked_by, asked_in, check_in};
-ghost use Rattle.cs_args.specs.CommandLine.{day_in, has_flag, has_no_number, has_unknown_name};
+ghost use Rattle.cs_args.specs.CommandLine.{Answers, FaultOf, Parses, all_in, asked_by, asked_in};
+ghost use Rattle.cs_args.specs.CommandLine.{check_in, day_in, format_in, format_named, has_flag};
+ghost use Rattle.cs_args.specs.CommandLine.{has_no_number, has_unfit_format, has_unknown_name};
 ghost use Rattle.cs_args.specs.CommandLine.{is_dash, is_given, is_misfit, is_twice_standard};
 ghost use Rattle.cs_args.specs.CommandLine.{is_wrong, judge_in, lacks, number_of, number_or};
-ghost use Rattle.cs_args.specs.CommandLine.{optional_number, value_or, values_in};
+ghost use Rattle.cs_args.specs.CommandLine.{numbers_of, optional_number, second_of, value_or};
+ghost use Rattle.cs_args.specs.CommandLine.{values_in};
 ghost use Rattle.cs_args.specs.Table.{words_given};
 ghost use Rattle.cs_args.specs.declared.table.Subcommand.TheVariants as subcommand;
 
 use crate::commands::command;
 use crate::request::{
-    AdviseWords, ApplyWords, ChartWords, CheckWords, DayWords, DraftWords, GatherWords, JudgeWords,
-    LearnWords, LintWords, MakeWords, ReloadWords, ReplayWords, Request, RunWords, StatusWords,
-    StopWords, UsageFault,
+    AdviseWords, AllWords, ApplyWords, ChartWords, CheckWords, DayWords, DiffWords, DraftWords,
+    Format, GatherWords, JudgeWords, LearnWords, LintWords, MakeWords, NextWords, ReloadWords,
+    ReplayWords, Request, RunWords, StatusWords, StopWords, UsageFault,
 };
 use crate::table::Subcommand;
 use clap::error::ErrorKind;
@@ -32,8 +35,11 @@ static NUMBERS: [&str; 9] = [
     "MAX", "from", "to", "days", "max", "minutes", "keep", "within", "first",
 ];
 
+/// The same of `next`, whose `--from` is a date.
+static NEXT_NUMBERS: [&str; 1] = ["count"];
+
 /// The arguments at which `-` is standard input.
-static INPUTS: [&str; 12] = [
+static INPUTS: [&str; 16] = [
     "TABLE",
     "DECLS",
     "CERT",
@@ -46,6 +52,10 @@ static INPUTS: [&str; 12] = [
     "zone",
     "system",
     "user",
+    "OLD_TABLE",
+    "OLD_DECLS",
+    "NEW_TABLE",
+    "NEW_DECLS",
 ];
 
 fn fault_of(alloc: Global, error: &Error) -> UsageFault
@@ -81,10 +91,34 @@ fn digits(text: &str) -> Option<u64>
     text.parse::<u64>().ok()
 }
 
+#[tactic(auto, using(crate::proofs::CommandLineLemmas::second_mapped))]
+fn second<'a>(paths: &[&'a str]) -> Option<&'a str>
+    ensures { option_map (λ path. path.now) result
+        ≡ slice_get (map (λ path. path.now) paths.now) 1 }
+{
+    paths.get(1).copied()
+}
+
 fn dash_count(paths: &[&str]) -> usize
     ensures { result ≡ count_by is_dash (map (λ path. path.now) paths.now) }
 {
     paths.iter().filter(|path| **path == "-").count()
+}
+
+fn format_named(name: &str) -> Option<Format>
+    ensures { result ≡ format_named name.now }
+{
+    if name == "text" {
+        Some(Format::Text)
+    } else if name == "json" {
+        Some(Format::Json)
+    } else if name == "sarif" {
+        Some(Format::Sarif)
+    } else if name == "github" {
+        Some(Format::Github)
+    } else {
+        None
+    }
 }
 
 /// The words of a subcommand, as `clap` found them.
@@ -230,6 +264,33 @@ impl<'a, 'm> Given<'a, 'm> {
         }
     }
 
+    fn format(self) -> Format
+        ensures { result ≡ format_in (words_given self.entry) }
+    {
+        match self.value("format") {
+            Some(name) => format_named(name).unwrap_or(Format::Text),
+            None => Format::Text,
+        }
+    }
+
+    /// What is wrong with `--format`.
+    fn unfit_format(self) -> Option<&'static str>
+        ensures { is_some result
+            ≡ has_unfit_format self.entry.subcommand (words_given self.entry) }
+    {
+        let Some(name) = self.value("format") else {
+            return None;
+        };
+        match self.subcommand {
+            Subcommand::Diff if name != "text" && name != "markdown" => {
+                Some("--format is text or markdown")
+            }
+            Subcommand::Diff => None,
+            _ if format_named(name).is_none() => Some("--format is text, json, sarif or github"),
+            _ => None,
+        }
+    }
+
     fn misfit(self) -> Option<&'static str>
         ensures { is_some result ≡ is_misfit (words_given self.entry) }
     {
@@ -242,6 +303,7 @@ impl<'a, 'm> Given<'a, 'm> {
         let days = self.number("days", 1);
         let within = self.number("within", 120);
         let first = self.number("first", 1);
+        let count = self.number("count", 10);
         if keeps && !output {
             Some("--keep is given without --output")
         } else if mails && !output {
@@ -260,8 +322,19 @@ impl<'a, 'm> Given<'a, 'm> {
             Some("--within is from 1 to 1439")
         } else if first == 0 {
             Some("--first is at least 1")
+        } else if count == 0 || count > 10_000 {
+            Some("--count is from 1 to 10000")
         } else {
             None
+        }
+    }
+
+    fn numbers(self) -> &'static [&'static str]
+        ensures { map (λ id. id.now) result.now ≡ numbers_of self.entry.subcommand }
+    {
+        match self.subcommand {
+            Subcommand::Next => NEXT_NUMBERS.as_slice(),
+            _ => NUMBERS.as_slice(),
         }
     }
 
@@ -272,12 +345,15 @@ impl<'a, 'm> Given<'a, 'm> {
         if let Some(message) = self.lacking() {
             return Ok(Some(String::from_str(self.alloc, message)?));
         }
-        if let Some(id) = self.no_number(&NUMBERS) {
+        if let Some(id) = self.no_number(self.numbers()) {
             return Ok(Some(self.number_message(id)?));
         }
         if let Some(name) = self.unknown_name() {
             let message = format!(in self.alloc; "unrecognized subcommand '{name}'")?;
             return Ok(Some(message));
+        }
+        if let Some(message) = self.unfit_format() {
+            return Ok(Some(String::from_str(self.alloc, message)?));
         }
         match self.misfit() {
             Some(message) => Ok(Some(String::from_str(self.alloc, message)?)),
@@ -335,6 +411,7 @@ impl<'a, 'm> Given<'a, 'm> {
             declarations: self.text("DECLS", ""),
             certificate: self.text("CERT", ""),
             anacrontab: self.value("anacrontab"),
+            format: self.format(),
         }
     }
 
@@ -369,6 +446,7 @@ impl<'a, 'm> Given<'a, 'm> {
             table: self.text("TABLE", ""),
             declarations: self.text("DECLS", ""),
             anacrontab: self.value("anacrontab"),
+            format: self.format(),
         }
     }
 
@@ -434,7 +512,68 @@ impl<'a, 'm> Given<'a, 'm> {
             only,
             except,
             faults_only: self.has_flag("faults-only"),
+            format: self.format(),
         })
+    }
+
+    /// For `judge --all` and `lint --all`.
+    fn all(self) -> Result<AllWords<'a>, AllocError>
+        ensures { IfOk result (λ a. asked_all a ≡ all_in (words_given self.entry)) }
+    {
+        let folders = self.values("FOLDER")?;
+        let only = self.values("only")?;
+        let except = self.values("except")?;
+        Ok(AllWords {
+            folders,
+            only,
+            except,
+            faults_only: self.has_flag("faults-only"),
+            format: self.format(),
+        })
+    }
+
+    fn second(self, id: &str) -> Option<&'a str>
+        ensures { option_map (λ text. text.now) result
+            ≡ second_of id.now (words_given self.entry) }
+    {
+        match self.matches.get_strs(id) {
+            Some(paths) => second(paths),
+            None => None,
+        }
+    }
+
+    fn diff(self) -> DiffWords<'a>
+        ensures { Diff (asked_diff result) ≡ asked_in subcommand.Diff (words_given self.entry) }
+    {
+        let format = Format::Text;
+        DiffWords {
+            old: JudgeWords {
+                table: self.text("OLD_TABLE", ""),
+                declarations: self.text("OLD_DECLS", ""),
+                anacrontab: self.value("anacrontab"),
+                format,
+            },
+            new: JudgeWords {
+                table: self.text("NEW_TABLE", ""),
+                declarations: self.text("NEW_DECLS", ""),
+                anacrontab: self.second("anacrontab"),
+                format,
+            },
+            since: self.value("since"),
+            markdown: self.text("format", "") == "markdown",
+        }
+    }
+
+    fn next(self) -> NextWords<'a>
+        ensures { Next (asked_next result) ≡ asked_in subcommand.Next (words_given self.entry) }
+    {
+        NextWords {
+            table: self.text("TABLE", ""),
+            anacrontab: self.value("anacrontab"),
+            count: self.number("count", 10),
+            from: self.value("from"),
+            json: self.has_flag("json"),
+        }
     }
 
     /// The help of the program, or of the subcommand that `help` is given.
@@ -488,6 +627,10 @@ impl<'a, 'm> Given<'a, 'm> {
             Subcommand::Chart => Ok(Request::Chart(self.chart())),
             Subcommand::Replay => Ok(Request::Replay(self.replay())),
             Subcommand::Explain => Ok(Request::Explain(self.value("NAME"))),
+            Subcommand::JudgeAll => Ok(Request::JudgeAll(self.all()?)),
+            Subcommand::LintAll => Ok(Request::LintAll(self.all()?)),
+            Subcommand::Diff => Ok(Request::Diff(self.diff())),
+            Subcommand::Next => Ok(Request::Next(self.next())),
             Subcommand::Help => Err(UsageFault::Help(self.help()?)),
         }
     }

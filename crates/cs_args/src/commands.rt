@@ -11,6 +11,9 @@ use clap::error::ErrorKind;
 use clap::{Arg, ArgAction, Command, Error};
 use std::alloc::{AllocError, Global};
 
+/// What the help calls the values of a pair.
+static PAIR: [&str; 2] = ["OLD", "NEW"];
+
 fn arg_of<'a>(alloc: Global, argument: &Argument) -> Arg<'a>
     ensures rule { rule_of result ≡ rule_in argument.now }
     ensures local { result.global ≡ false }
@@ -24,6 +27,7 @@ fn arg_of<'a>(alloc: Global, argument: &Argument) -> Arg<'a>
         Takes::Flag => arg.long(name).action(ArgAction::SetTrue),
         Takes::Value(value) => arg.long(name).value_name(value),
         Takes::Values(value) => arg.long(name).value_name(value).action(ArgAction::Append),
+        Takes::Pair => arg.long(name).value_names(PAIR.as_slice()),
     }
 }
 

@@ -12,8 +12,8 @@ mod version;
 pub use command_line::parse_words;
 pub use question::{Question, WordFault};
 pub use request::{
-    AdviseWords, ChartWords, CheckWords, DayWords, DraftWords, GatherWords, JudgeWords, LearnWords,
-    LintWords, MakeWords, ReloadWords, ReplayWords, Request, RunWords, StatusWords, StopWords,
-    UsageFault,
+    AdviseWords, AllWords, ChartWords, CheckWords, DayWords, DiffWords, DraftWords, Format,
+    GatherWords, JudgeWords, LearnWords, LintWords, MakeWords, NextWords, ReloadWords, ReplayWords,
+    Request, RunWords, StatusWords, StopWords, UsageFault,
 };
 pub use version::version_text;

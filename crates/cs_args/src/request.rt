@@ -41,6 +41,19 @@ pub struct ReplayWords<'a> {
     pub show_script: bool,
 }
 
+/// The form in which findings are printed.
+#[derive(Clone, Copy, PartialEq, Eq)]
+pub enum Format {
+    /// Lines for people.
+    Text,
+    /// A JSON object, of which docs/findings.schema.json is the schema.
+    Json,
+    /// SARIF 2.1.0.
+    Sarif,
+    /// Lines `::error file=FILE,line=LINE,col=COLUMN::MESSAGE`, as GitHub's workflows take them.
+    Github,
+}
+
 /// What `check` is asked.
 #[derive(Clone, Copy)]
 pub struct CheckWords<'a> {
@@ -52,6 +65,8 @@ pub struct CheckWords<'a> {
     pub certificate: &'a str,
     /// The path of an anacrontab.
     pub anacrontab: Option<&'a str>,
+    /// The form in which the refusal is printed.
+    pub format: Format,
 }
 
 /// What `run` is asked.
@@ -144,6 +159,51 @@ pub struct JudgeWords<'a> {
     pub declarations: &'a str,
     /// The path of an anacrontab.
     pub anacrontab: Option<&'a str>,
+    /// The form in which the answer is printed.
+    pub format: Format,
+}
+
+/// What `judge --all` and `lint --all` are asked.
+#[derive(Drop)]
+pub struct AllWords<'a> {
+    /// The paths of folders, in order.
+    pub folders: Vec<&'a str>,
+    /// The names of the odd findings to show; all if there are none.
+    pub only: Vec<&'a str>,
+    /// The names of the odd findings not to show.
+    pub except: Vec<&'a str>,
+    /// Whether only faults are shown, and nothing that is odd.
+    pub faults_only: bool,
+    /// The form in which findings are printed.
+    pub format: Format,
+}
+
+/// What `diff` is asked.
+#[derive(Clone, Copy)]
+pub struct DiffWords<'a> {
+    /// The paths of the tables and declarations before.
+    pub old: JudgeWords<'a>,
+    /// The paths of the tables and declarations after.
+    pub new: JudgeWords<'a>,
+    /// The text of the first day on which jobs may meet; today if there is none.
+    pub since: Option<&'a str>,
+    /// Whether the answer is Markdown, and not lines for people.
+    pub markdown: bool,
+}
+
+/// What `next` is asked.
+#[derive(Clone, Copy)]
+pub struct NextWords<'a> {
+    /// The path of a crontab.
+    pub table: &'a str,
+    /// The path of an anacrontab.
+    pub anacrontab: Option<&'a str>,
+    /// How many starts are shown, from 1 to 10,000.
+    pub count: u64,
+    /// The text of the minute from which starts are counted; the present one if there is none.
+    pub from: Option<&'a str>,
+    /// Whether the starts are shown as JSON, and not for people.
+    pub json: bool,
 }
 
 /// What `make` is asked.
@@ -222,6 +282,8 @@ pub struct LintWords<'a> {
     pub except: Vec<&'a str>,
     /// Whether only faults are shown, and nothing that is odd.
     pub faults_only: bool,
+    /// The form in which findings are printed.
+    pub format: Format,
 }
 
 /// What `chart` is asked.
@@ -274,6 +336,14 @@ pub enum Request<'a> {
     Chart(ChartWords<'a>),
     /// What the name of a fault or of a refusal means, or which names there are.
     Explain(Option<&'a str>),
+    /// What an edit changes.
+    Diff(DiffWords<'a>),
+    /// The next starts of all jobs.
+    Next(NextWords<'a>),
+    /// Whether each table below folders is safe.
+    JudgeAll(AllWords<'a>),
+    /// All that is wrong or odd in the tables below folders.
+    LintAll(AllWords<'a>),
 }
 
 /// Why the words of a call make no request.

@@ -3,7 +3,7 @@ ghost use Rattle.std.specs.Prelude.{◌≡◌, map};
 ghost use Rattle.cs_args.specs.CommandLine.{name_of, rules_of};
 ghost use Rattle.cs_args.specs.Table.{rule_in};
 
-use crate::table::Takes::{Flag, OptionalWord, Value, Values, Word, Words};
+use crate::table::Takes::{Flag, OptionalWord, Pair, Value, Values, Word, Words};
 use crate::texts;
 
 /// How an argument is given.
@@ -20,6 +20,8 @@ pub(crate) enum Takes {
     Value(&'static str),
     /// `--NAME VALUE`, once or more often, and what the help calls the value.
     Values(&'static str),
+    /// `--NAME OLD NEW`.
+    Pair,
 }
 
 /// An argument: its name, how it is given, and what the help says of it.
@@ -47,9 +49,41 @@ const FROM: Argument = Argument("from", Value("M"), texts::FROM_HELP);
 
 const TO: Argument = Argument("to", Value("M"), texts::TO_HELP);
 
-static JUDGE: [Argument; 3] = [TABLE, DECLS, ANACRONTAB];
+const FORMAT: Argument = Argument("format", Value("FORMAT"), texts::FORMAT_HELP);
 
-static CHECK: [Argument; 4] = [TABLE, DECLS, CERT, ANACRONTAB];
+const FOLDER: Argument = Argument("FOLDER", Words, texts::FOLDER_HELP);
+
+const ONLY: Argument = Argument("only", Values("NAME"), texts::ONLY_HELP);
+
+const EXCEPT: Argument = Argument("except", Values("NAME"), texts::EXCEPT_HELP);
+
+const FAULTS_ONLY: Argument = Argument("faults-only", Flag, texts::FAULTS_ONLY_HELP);
+
+static JUDGE: [Argument; 4] = [TABLE, DECLS, ANACRONTAB, FORMAT];
+
+static CHECK: [Argument; 5] = [TABLE, DECLS, CERT, ANACRONTAB, FORMAT];
+
+static JUDGE_ALL: [Argument; 2] = [FOLDER, FORMAT];
+
+static LINT_ALL: [Argument; 5] = [FOLDER, ONLY, EXCEPT, FAULTS_ONLY, FORMAT];
+
+static DIFF: [Argument; 7] = [
+    Argument("OLD_TABLE", Word, texts::OLD_TABLE_HELP),
+    Argument("OLD_DECLS", Word, texts::OLD_DECLS_HELP),
+    Argument("NEW_TABLE", Word, texts::NEW_TABLE_HELP),
+    Argument("NEW_DECLS", Word, texts::NEW_DECLS_HELP),
+    Argument("anacrontab", Pair, texts::ANACRONTABS_HELP),
+    Argument("since", Value("DATE"), texts::SINCE_HELP),
+    Argument("format", Value("FORMAT"), texts::DIFF_FORMAT_HELP),
+];
+
+static NEXT: [Argument; 5] = [
+    TABLE,
+    ANACRONTAB,
+    Argument("count", Value("N"), texts::COUNT_HELP),
+    Argument("from", Value("DATE-TIME"), texts::NEXT_FROM_HELP),
+    Argument("json", Flag, texts::NEXT_JSON_HELP),
+];
 
 static MAKE: [Argument; 4] = [
     TABLE,
@@ -58,12 +92,13 @@ static MAKE: [Argument; 4] = [
     Argument("compact", Flag, texts::COMPACT_HELP),
 ];
 
-static ADVISE: [Argument; 5] = [
+static ADVISE: [Argument; 6] = [
     TABLE,
     DECLS,
     ANACRONTAB,
     Argument("within", Value("MINUTES"), texts::WITHIN_HELP),
     Argument("first", Value("N"), texts::FIRST_HELP),
+    FORMAT,
 ];
 
 static RUN: [Argument; 19] = [
@@ -121,14 +156,15 @@ static LEARN: [Argument; 4] = [
     Argument("factor", Value("F"), texts::FACTOR_HELP),
 ];
 
-static LINT: [Argument; 7] = [
+static LINT: [Argument; 8] = [
     TABLE,
     Argument("DECLS", OptionalWord, texts::DECLARATIONS_HELP),
     ANACRONTAB,
     Argument("zone", Value("FILE"), texts::ZONE_HELP),
-    Argument("only", Values("NAME"), texts::ONLY_HELP),
-    Argument("except", Values("NAME"), texts::EXCEPT_HELP),
-    Argument("faults-only", Flag, texts::FAULTS_ONLY_HELP),
+    ONLY,
+    EXCEPT,
+    FAULTS_ONLY,
+    FORMAT,
 ];
 
 static DAY: [Argument; 6] = [
@@ -186,11 +222,15 @@ pub(crate) enum Subcommand {
     Chart,
     Replay,
     Explain,
+    JudgeAll,
+    LintAll,
+    Diff,
+    Next,
     Help,
 }
 
 /// All subcommands, in the order of the help.
-pub(crate) static SUBCOMMANDS: [Subcommand; 19] = [
+pub(crate) static SUBCOMMANDS: [Subcommand; 23] = [
     Subcommand::Judge,
     Subcommand::Check,
     Subcommand::Make,
@@ -209,6 +249,10 @@ pub(crate) static SUBCOMMANDS: [Subcommand; 19] = [
     Subcommand::Chart,
     Subcommand::Replay,
     Subcommand::Explain,
+    Subcommand::JudgeAll,
+    Subcommand::LintAll,
+    Subcommand::Diff,
+    Subcommand::Next,
     Subcommand::Help,
 ];
 
@@ -236,6 +280,16 @@ impl Subcommand {
             Subcommand::Chart => ("chart", texts::CHART_ABOUT, texts::CHART_EXAMPLE),
             Subcommand::Replay => ("replay", texts::REPLAY_ABOUT, texts::REPLAY_EXAMPLE),
             Subcommand::Explain => ("explain", texts::EXPLAIN_ABOUT, texts::EXPLAIN_EXAMPLE),
+            Subcommand::JudgeAll => {
+                (
+                    "judge --all",
+                    texts::JUDGE_ALL_ABOUT,
+                    texts::JUDGE_ALL_EXAMPLE,
+                )
+            }
+            Subcommand::LintAll => ("lint --all", texts::LINT_ALL_ABOUT, texts::LINT_ALL_EXAMPLE),
+            Subcommand::Diff => ("diff", texts::DIFF_ABOUT, texts::DIFF_EXAMPLE),
+            Subcommand::Next => ("next", texts::NEXT_ABOUT, texts::NEXT_EXAMPLE),
             Subcommand::Help => ("help", texts::HELP_ABOUT, ""),
         }
     }
@@ -262,6 +316,10 @@ impl Subcommand {
             Subcommand::Chart => CHART.as_slice(),
             Subcommand::Replay => REPLAY.as_slice(),
             Subcommand::Explain => EXPLAIN.as_slice(),
+            Subcommand::JudgeAll => JUDGE_ALL.as_slice(),
+            Subcommand::LintAll => LINT_ALL.as_slice(),
+            Subcommand::Diff => DIFF.as_slice(),
+            Subcommand::Next => NEXT.as_slice(),
             Subcommand::Help => HELP.as_slice(),
         }
     }

@@ -1,5 +1,5 @@
 -- The answers to `judge` and to `make`: how the tables stand as they are declared.
-use Rattle.std.specs.Prelude.{◌≡◌, ℕ, Bool, true, false, List, [], ◌++◌, Option, Some, None}
+use Rattle.std.specs.Prelude.{◌≡◌, ℕ, Bool, true, false, List, [], ◌∷◌, ◌++◌, Option, Some, None, codes, string_bytes}
 use Rattle.cs_plan.specs.Plan.{Declared}
 use Rattle.cs_judge.specs.Answer.{IsAnswer}
 use Rattle.cs_judge.specs.Judged.{IsJudgement}
@@ -9,6 +9,12 @@ use Rattle.cs_judge.specs.declared.answers.Outcome.{Outcome}
 use Rattle.cs_judge.specs.declared.answers.Outcome.TheVariants as outcome
 use Rattle.cs_judge.specs.declared.answers.Wanted.{Wanted}
 use Rattle.cs_judge.specs.declared.answers.Wanted.TheVariants.{Certificate, Compact, Verdict}
+use Rattle.cs_counterexample.specs.declared.shown.Shown.{Shown}
+use Rattle.cs_counterexample.specs.declared.shown.Shown.TheVariants.{Load, Skipped, Together}
+use Rattle.cs_diagnostics.specs.declared.told.Level.{Level}
+use Rattle.cs_diagnostics.specs.declared.told.Level.TheVariants.{Error, Warning}
+use Rattle.cs_findings.specs.declared.finding.Finding.{Finding}
+use Rattle.cs_maker.specs.Reason.{reason_name}
 use Rattle.cs_theorem.specs.Told.{told}
 use Rattle.cs_report.specs.Warning.{plan_notes}
 use Rattle.cs_args.specs.Asked.{AskedJudge, AskedMake}
@@ -32,6 +38,25 @@ AreRefusalNotes plan places (Unsafe script shown breach) notes = notes ≡ []
 AreRefusalNotes plan places (Unknown reason None) notes = notes ≡ []
 AreRefusalNotes plan places (Unknown reason (Some fault)) notes =
     (more : List ℕ) × (notes ≡ fault_places plan places (told fault) ++ more)
+
+-- the checker's name of what a history breaks
+abbrev pub shown_rule : Shown → List ℕ
+shown_rule (Together one other) = codes "Collision"
+shown_rule (Load weight) = codes "OverCapacity"
+shown_rule (Skipped job at) = codes "SkipBlocked"
+
+-- a finding of that level names that rule
+abbrev pub IsFound : Level → List ℕ → Finding → Type 0
+IsFound level rule finding = (finding.level ≡ level) × (string_bytes finding.rule ≡ rule)
+
+-- nothing is found of a safe plan; of an unsafe one an error, of what its history breaks; else a
+-- warning, of the reason
+abbrev pub AreFindings : Judged → List Finding → Type 0
+AreFindings (Safe checked) findings = findings ≡ []
+AreFindings (Unsafe script shown breach) findings =
+    (f : Finding) × IsFound Error (shown_rule shown) f × (findings ≡ f ∷ [])
+AreFindings (Unknown reason refusal) findings =
+    (f : Finding) × IsFound Warning (reason_name reason) f × (findings ≡ f ∷ [])
 
 -- what is known of a plan is printed, with the notes on it, and the status is by how it was found
 pub record IsJudged (wanted : Wanted) (plan : Declared) (places : List Place) (ending : Ending)

@@ -5,6 +5,7 @@ use crate::findings::{Done, Findings};
 use crate::outline::parsed;
 use crate::render::File;
 use crate::span::Span;
+use crate::told::Shown;
 use cs_plan::{DeclError, DeclFault, Place};
 use serde_json::Value;
 use std::alloc::{AllocError, Global};
@@ -128,15 +129,14 @@ fn find_fault(
     findings.fault(span, format_args!("{name}: {why}"))
 }
 
-/// What [`Findings::tell`] prints of the first fault of declarations, after a newline and without
-/// the last one; none where the reader ran out of memory. `has_jobs` says whether an anacrontab has
+/// What [`Findings::tell`] prints of the first fault of declarations; none where the reader ran out of memory. `has_jobs` says whether an anacrontab has
 /// jobs. The only error is out of memory.
 pub fn declared_lines(
     alloc: Global,
     file: &File<'_>,
     error: &DeclError,
     has_jobs: bool,
-) -> Result<Option<Vec<u8>>, AllocError> {
+) -> Result<Option<Shown>, AllocError> {
     let DeclError::At { fault, place } = error else {
         return Ok(None);
     };
@@ -150,5 +150,5 @@ pub fn declared_lines(
         }
         Err(error) => findings.no_json(file.bytes, &error)?,
     }
-    Ok(Some(findings.lines(file, &[])?))
+    Ok(Some(findings.shown(file, &[])?))
 }

@@ -16,6 +16,7 @@ mod places;
 mod render;
 mod shape;
 mod span;
+mod told;
 
 pub use declared::{Declarations, parts_in};
 pub use declared_fault::declared_lines;
@@ -31,3 +32,4 @@ pub use places::{notes_on, places_in};
 pub use render::File;
 pub use shape::has_meant;
 pub use span::Span;
+pub use told::{Level, Shown, Told};

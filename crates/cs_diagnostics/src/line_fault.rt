@@ -5,6 +5,7 @@ use crate::line::{bad_setting, is_word_line, word_from};
 use crate::places::{notes_on, places_in};
 use crate::render::File;
 use crate::span::Span;
+use crate::told::Shown;
 use cs_crontab::LineFault;
 use cs_table::MAX_LINE;
 use cs_table::text::{first_line, has_nul};
@@ -120,14 +121,14 @@ pub fn find_mark(findings: &mut Findings, bytes: &[u8]) -> Result<usize, AllocEr
     Ok(MARK.len())
 }
 
-/// What [`Findings::tell`] prints of the first fault of a table, after a newline and without the
-/// last one; of a gathered table also where its line comes from. The only error is out of memory.
+/// What [`Findings::tell`] prints of the first fault of a table; of a gathered table also where its
+/// line comes from. The only error is out of memory.
 pub fn table_lines(
     alloc: Global,
     file: &File<'_>,
     kind: TableKind,
     fault: &FirstFault<'_>,
-) -> Result<Vec<u8>, AllocError> {
+) -> Result<Shown, AllocError> {
     let mut findings = Findings::new(alloc, file.bytes)?;
     let is_number = fault.name == LineFault::BadNumber.text();
     let start = findings.line_start(fault.line);
@@ -144,5 +145,5 @@ pub fn table_lines(
     }
     let places = places_in(alloc, file.bytes)?;
     let notes = notes_on(alloc, places.as_slice())?;
-    findings.lines(file, notes.as_slice())
+    findings.shown(file, notes.as_slice())
 }

@@ -1,8 +1,12 @@
 //! The text of findings: the place and the words, the line, and a mark under the place.
+ghost use Rattle.std.specs.Prelude.{◌≡◌, ◌++◌, ℕ, IfOk, List, OnOk};
+ghost use Rattle.cs_diagnostics.specs.Printed.{HasWords, ShowsEach, printed_oddities};
 
 use crate::findings::{Done, Finding, Findings, MAX_TOLD, Note};
 use crate::names::push_clean;
 use crate::span::Span;
+use crate::told::Shown;
+use cs_civil::Bytes;
 use std::alloc::{AllocError, Global};
 
 /// The most bytes of a line that are shown before a place.
@@ -79,23 +83,41 @@ fn add_note(text: &mut Vec<u8>, notes: &[Note], line: u64) -> Done {
     Ok(())
 }
 
-/// Adds findings of a file of that name; `what` is `fault` or `odd`.
+/// The text of a finding in a file of that name; `what` is `fault` or `odd`.
+fn block_of(
+    alloc: Global,
+    file: (&str, &[u8]),
+    notes: &[Note],
+    what: &str,
+    finding: &Finding,
+) -> Result<Vec<u8>, AllocError>
+    ensures { IfOk result (λ block. HasWords finding.now block.items) }
+{
+    let (name, bytes) = file;
+    let (line, column) = (finding.line, finding.place.from as u128 + 1);
+    let mut below = marked(alloc, bytes, finding)?;
+    add_note(&mut below, notes, finding.about)?;
+    let mut block = format!(in alloc; "{name}:{line}:{column}: {what}: ")?.into_bytes();
+    block.extend_from_slice(finding.words.as_bytes())?;
+    block.push(b'\n')?;
+    block.extend_from_slice(below.as_slice())?;
+    Ok(block)
+}
+
 fn add_findings(
     alloc: Global,
     text: &mut Vec<u8>,
-    (name, bytes): (&str, &[u8]),
+    file: (&str, &[u8]),
     notes: &[Note],
     what: &str,
     findings: &[Finding],
-) -> Done {
-    for finding in findings.iter() {
-        let (line, column) = (finding.line, finding.place.from as u128 + 1);
-        let words = finding.words.as_str();
-        let heading = format!(in alloc; "{name}:{line}:{column}: {what}: {words}\n")?;
-        text.extend_from_slice(heading.as_bytes())?;
-        let below = marked(alloc, bytes, finding)?;
-        text.extend_from_slice(below.as_slice())?;
-        add_note(text, notes, finding.about)?;
+) -> Done
+    ensures { OnOk result ((shown : List ℕ) × ShowsEach findings.now shown
+        × (text.new.items ≡ text.old.items ++ shown)) }
+{
+    for finding in findings {
+        let block = block_of(alloc, file, notes, what, finding)?;
+        text.extend_from_slice(block.as_slice())?;
     }
     Ok(())
 }
@@ -110,7 +132,12 @@ impl Findings {
     /// the rest. The note of the line that the finding is about follows after two blanks. After
     /// [`MAX_TOLD`](crate::MAX_TOLD) findings `FILE: and N more` ends the text. The only error is
     /// out of memory.
-    pub fn tell(&self, file: &File<'_>, notes: &[Note], text: &mut Vec<u8>) -> Done {
+    pub fn tell(&self, file: &File<'_>, notes: &[Note], text: &mut Vec<u8>) -> Done
+        ensures { OnOk result ((faults oddities last : List ℕ)
+            × ShowsEach self.now.faults.items faults
+            × ShowsEach (printed_oddities self.now) oddities
+            × (text.new.items ≡ ((text.old.items ++ faults) ++ oddities) ++ last)) }
+    {
         let (alloc, faults) = (self.alloc, self.faults.as_slice());
         let name = if file.path == "-" {
             "standard input"
@@ -119,23 +146,34 @@ impl Findings {
         };
         let named = (name, file.bytes);
         add_findings(alloc, text, named, notes, "fault", faults)?;
-        let left = MAX_TOLD
-            .saturating_sub(faults.len())
-            .min(self.oddities.len());
-        add_findings(alloc, text, named, notes, "odd", &self.oddities[..left])?;
-        if self.more > 0 {
-            let more = self.more;
-            let last = format!(in alloc; "{name}: and {more} more\n")?;
-            text.extend_from_slice(last.as_bytes())?;
-        }
-        Ok(())
+        add_findings(alloc, text, named, notes, "odd", self.printed_oddities())?;
+        let more = self.more;
+        let last = if more > 0 {
+            format!(in alloc; "{name}: and {more} more\n")?
+        } else {
+            String::new(alloc)
+        };
+        text.extend_from_slice(last.as_bytes())
     }
 
-    /// What [`tell`](Findings::tell) adds, after a newline and without the last one.
-    pub(crate) fn lines(&self, file: &File<'_>, notes: &[Note]) -> Result<Vec<u8>, AllocError> {
+    /// The oddities that are printed: not those after [`MAX_TOLD`](crate::MAX_TOLD) findings.
+    pub(crate) fn printed_oddities(&self) -> &[Finding]
+        ensures { result.now ≡ printed_oddities self.now }
+    {
+        let left = MAX_TOLD
+            .saturating_sub(self.faults.len())
+            .min(self.oddities.len());
+        &self.oddities[..left]
+    }
+
+    /// What [`tell`](Findings::tell) adds, after a newline and without the last one; and the same
+    /// findings for programs.
+    pub(crate) fn shown(&self, file: &File<'_>, notes: &[Note]) -> Result<Shown, AllocError> {
         let mut lines = Vec::from_slice(self.alloc, b"\n".as_slice())?;
         self.tell(file, notes, &mut lines)?;
         let _newline = lines.pop();
-        Ok(lines)
+        let mut told = Vec::new(self.alloc);
+        self.push_told(file.bytes, &mut told)?;
+        Shown::new(self.alloc, file.path, Bytes::from_vec(lines), told)
     }
 }

@@ -13,9 +13,10 @@ ghost use Rattle.cs_files.specs.declared.fault.Fault.TheVariants.{OutOfMemory, W
 use crate::response::{Response, Status};
 use cs_anacrontab::AnacronFault;
 use cs_args::WordFault;
-use cs_civil::{Bytes, push_number};
+use cs_civil::push_number;
 use cs_claims::CertError;
 use cs_crontab::TableFault as CrontabFault;
+use cs_diagnostics::Shown;
 use cs_io::Reason;
 use cs_plan::DeclError;
 use cs_report::ScriptError;
@@ -31,13 +32,13 @@ pub enum Fault<'a> {
     /// This path can't be read, for this reason.
     CannotRead(&'a str, Reason),
     /// The crontab holds a fault, whether it reads as an anacrontab, and lines that show the fault.
-    Crontab(CrontabFault, bool, Option<Bytes>),
+    Crontab(CrontabFault, bool, Option<Shown>),
     /// The anacrontab holds a fault, and lines that show it.
-    Anacrontab(AnacronFault, Option<Bytes>),
+    Anacrontab(AnacronFault, Option<Shown>),
     /// The table at this path, one of those that are gathered, holds a fault, and lines show it.
-    Gathered(&'a str, TableFault<SystemFault>, Option<Bytes>),
+    Gathered(&'a str, TableFault<SystemFault>, Option<Shown>),
     /// The declarations, or the plan that they make of the tables, hold a fault, and lines show it.
-    Declarations(DeclError, Option<Bytes>),
+    Declarations(DeclError, Option<Shown>),
     /// The script holds a fault.
     Script(ScriptError),
     /// The text of the certificate holds a fault.
@@ -120,11 +121,11 @@ fn push_jobs_hint(text: &mut Vec<u8>, are_jobs: bool) -> Result<(), AllocError>
     )
 }
 
-fn push_lines(text: &mut Vec<u8>, lines: &Option<Bytes>) -> Result<(), AllocError>
+fn push_lines(text: &mut Vec<u8>, lines: &Option<Shown>) -> Result<(), AllocError>
     ensures { OnOk result (text.new.items ≡ text.old.items ++ lines_in lines.now) }
 {
     match lines {
-        Some(lines) => text.extend_from_slice(lines.as_slice()),
+        Some(shown) => text.extend_from_slice(shown.lines()),
         None => Ok(()),
     }
 }
@@ -133,7 +134,7 @@ fn crontab_text(
     alloc: Global,
     fault: CrontabFault,
     are_jobs: bool,
-    lines: &Option<Bytes>,
+    lines: &Option<Shown>,
 ) -> Result<Vec<u8>, AllocError>
     ensures { IfOk result
         (λ text. Says (table_trouble fault are_jobs (lines_in lines.now)) text.items) }
@@ -152,7 +153,7 @@ fn crontab_text(
 fn anacrontab_text(
     alloc: Global,
     fault: AnacronFault,
-    lines: &Option<Bytes>,
+    lines: &Option<Shown>,
 ) -> Result<Vec<u8>, AllocError>
     ensures { IfOk result (λ text. Says (jobs_trouble fault (lines_in lines.now)) text.items) }
 {
@@ -170,7 +171,7 @@ fn gathered_text(
     alloc: Global,
     path: &str,
     fault: TableFault<SystemFault>,
-    lines: &Option<Bytes>,
+    lines: &Option<Shown>,
 ) -> Result<Vec<u8>, AllocError>
     ensures { IfOk result
         (λ text. Says (gathered_trouble path.now fault (lines_in lines.now)) text.items) }
@@ -217,7 +218,7 @@ fn no_zone_text(alloc: Global, path: &str) -> Result<Vec<u8>, AllocError>
 fn declared_text(
     alloc: Global,
     fault: &DeclError,
-    lines: &Option<Bytes>,
+    lines: &Option<Shown>,
 ) -> Result<Vec<u8>, AllocError>
     ensures { IfOk result
         (λ text. Says (declared_trouble fault.now (lines_in lines.now)) text.items) }
@@ -275,6 +276,16 @@ impl Fault<'_> {
             Fault::Certificate(fault) => certificate_text(alloc, *fault),
             Fault::NoZone(path) => no_zone_text(alloc, path),
             Fault::OutOfMemory => Err(AllocError),
+        }
+    }
+
+    /// What is wrong in the tables or declarations, where that was found.
+    pub fn shown(&self) -> Option<&Shown> {
+        match self {
+            Fault::Crontab(_, _, shown) => shown.as_ref(),
+            Fault::Anacrontab(_, shown) => shown.as_ref(),
+            Fault::Declarations(_, shown) => shown.as_ref(),
+            _ => None,
         }
     }
 

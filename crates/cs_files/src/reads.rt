@@ -109,11 +109,7 @@ fn table_in<'a>(alloc: Global, path: &str, bytes: &[u8]) -> Result<Crontab, Faul
         Ok(table) => Ok(table),
         Err(fault) => {
             let are_jobs = are_jobs(alloc, bytes)?;
-            let lines = if are_jobs {
-                None
-            } else {
-                crontab_lines(alloc, path, bytes, fault)?
-            };
+            let lines = crontab_lines(alloc, path, bytes, fault, are_jobs)?;
             Err(Fault::Crontab(fault, are_jobs, lines))
         }
     }

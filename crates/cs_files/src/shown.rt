@@ -3,19 +3,20 @@ ghost use Rattle.cs_files.specs.Trouble.{IsFaultOf};
 
 use crate::fault::Fault;
 use cs_anacrontab::{AnacronFault, JobFault};
-use cs_civil::Bytes;
 use cs_crontab::{LineFault, TableFault as CrontabFault};
-use cs_diagnostics::{File, FirstFault, TableKind, declared_lines, table_lines};
+use cs_diagnostics::{File, FirstFault, Shown, TableKind, declared_lines, table_lines};
 use cs_plan::DeclError;
 use std::alloc::{AllocError, Global};
 
-/// The lines that show the first fault of a crontab. None if memory ran out.
+/// The lines that show the first fault of a crontab; none for people if it reads as an anacrontab.
+/// None if memory ran out.
 pub(crate) fn crontab_lines(
     alloc: Global,
     path: &str,
     bytes: &[u8],
     fault: CrontabFault,
-) -> Result<Option<Bytes>, AllocError> {
+    are_jobs: bool,
+) -> Result<Option<Shown>, AllocError> {
     let CrontabFault::At {
         line,
         column,
@@ -27,8 +28,13 @@ pub(crate) fn crontab_lines(
     };
     let is_setting = fault == LineFault::BadSetting;
     let first = FirstFault::of(line, column, length, is_setting, fault.text());
-    let lines = table_lines(alloc, &File { path, bytes }, TableKind::Crontab, &first)?;
-    Ok(Some(Bytes::from_vec(lines)))
+    if are_jobs {
+        let why = "the table reads as an anacrontab: give it with --anacrontab";
+        let words = format!(in alloc; "{}: {why}", fault.text())?;
+        return Ok(Some(Shown::alone(alloc, path, u64::from(line), words)?));
+    }
+    let file = File { path, bytes };
+    Ok(Some(table_lines(alloc, &file, TableKind::Crontab, &first)?))
 }
 
 /// The same for an anacrontab.
@@ -37,7 +43,7 @@ pub(crate) fn anacrontab_lines(
     path: &str,
     bytes: &[u8],
     fault: AnacronFault,
-) -> Result<Option<Bytes>, AllocError> {
+) -> Result<Option<Shown>, AllocError> {
     let AnacronFault::At {
         line,
         column,
@@ -49,21 +55,8 @@ pub(crate) fn anacrontab_lines(
     };
     let is_setting = fault == JobFault::BadSetting;
     let first = FirstFault::of(line, column, length, is_setting, fault.text());
-    let lines = table_lines(alloc, &File { path, bytes }, TableKind::Anacrontab, &first)?;
-    Ok(Some(Bytes::from_vec(lines)))
-}
-
-fn lines_of(
-    alloc: Global,
-    path: &str,
-    bytes: &[u8],
-    has_jobs: bool,
-    error: &DeclError,
-) -> Result<Option<Bytes>, AllocError> {
-    match declared_lines(alloc, &File { path, bytes }, error, has_jobs)? {
-        Some(lines) => Ok(Some(Bytes::from_vec(lines))),
-        None => Ok(None),
-    }
+    let file = File { path, bytes };
+    Ok(Some(table_lines(alloc, &file, TableKind::Anacrontab, &first)?))
 }
 
 /// Returns a fault of declarations, with the lines that show it. `has_jobs`: whether the anacrontab
@@ -77,7 +70,7 @@ pub fn declared_fault<'a>(
 ) -> Fault<'a>
     ensures { IsFaultOf error result }
 {
-    match lines_of(alloc, path, bytes, has_jobs, &error) {
+    match declared_lines(alloc, &File { path, bytes }, &error, has_jobs) {
         Ok(lines) => Fault::Declarations(error, lines),
         Err(AllocError) => Fault::OutOfMemory,
     }

@@ -1,6 +1,6 @@
 use Rattle.std.proofs.Common.{◌≡◌, ◌⊎◌, ◌∙◌, ◌++◌, ◌∷◌, All, Contains, List, [], Option, Some, None, IfSome, ap, codes, inl, inr, subst, sym}
 use Rattle.std.proofs.lemmas.List.Elements.{All-push, Contains-append_left, Contains-push}
-use Rattle.clap.specs.Words.{Text}
+use Rattle.cs_args.specs.Asked.{Text}
 use Rattle.cs_io.specs.Folders.{Tree}
 use Rattle.cs_io.specs.declared.folders.FileKind.{FileKind}
 use Rattle.cs_files.proofs.TroubleLemmas.{some_is}

@@ -1,7 +1,7 @@
 -- Tables of a machine as one user's table: what each adds, and what the text says.
 use Rattle.std.specs.Prelude.{◌≡◌, ℕ, ◌+◌, ◌-◌, ◌⊎◌, true, List, [], ◌∷◌, ◌++◌, Option, Some, None, length, option_map}
 use Rattle.std.specs.List.{list_all, AllZip}
-use Rattle.clap.specs.Words.{Text}
+use Rattle.cs_args.specs.Asked.{Text}
 use Rattle.cs_table.specs.declared.fault.TableFault.{TableFault}
 use Rattle.cs_table.specs.declared.fault.TableFault.TheVariants.{At, OutOfMemory}
 use Rattle.cs_table.specs.Text.{lines_of, is_blank, StopsAt}

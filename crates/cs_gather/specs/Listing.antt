@@ -1,7 +1,7 @@
 -- The tables below a root folder, folder by folder.
 use Rattle.std.specs.Prelude.{◌≡◌, ◌++◌, ℕ, true, Contains, List, Option, Some, None, codes}
 use Rattle.std.specs.Prelude.{string_bytes}
-use Rattle.clap.specs.Words.{Text}
+use Rattle.cs_args.specs.Asked.{Text}
 use Rattle.cs_io.specs.Files.{AreReadInTurn, Failed, Reads}
 use Rattle.cs_io.specs.Folders.{Tree}
 use Rattle.cs_place.specs.Places.{is_part_name}

@@ -2,7 +2,7 @@
 use Rattle.std.specs.Prelude.{◌≡◌, ◌⊎◌, ◌==◌, All, Contains, true, false, List, [], ◌∷◌, ◌++◌, Option, Some, None, codes, map, nat_eq, unwrap_or, ⊤}
 use Rattle.std.specs.List.{AllZip, list_any, starts_with}
 use Rattle.std.specs.Str.{IsUtf8}
-use Rattle.clap.specs.Words.{Text}
+use Rattle.cs_args.specs.Asked.{Text}
 use Rattle.cs_io.specs.Folders.{Tree}
 use Rattle.cs_io.specs.declared.folders.FileKind.{FileKind}
 use Rattle.cs_io.specs.declared.folders.FileKind.TheVariants.{Program, Regular}

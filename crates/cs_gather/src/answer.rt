@@ -52,7 +52,7 @@ fn shown<'a>(
     let first = FirstFault::of(line, column, length, is_setting, inner.text());
     let file = File { path, bytes };
     let lines = table_lines(alloc, &file, TableKind::Crontab, &first)?;
-    Ok(Fault::Gathered(path, fault, Some(Bytes::from_vec(lines))))
+    Ok(Fault::Gathered(path, fault, Some(lines)))
 }
 
 /// Ignores a table with this fault and notes it, if the table was found below the root folder and

@@ -1,6 +1,7 @@
-use Rattle.std.proofs.Common.{◌≡◌, ◌<◌, ◌≤◌, ◌⊎◌, ◌∙◌, ℕ, true, List, [], Option, Some, None, IfSome, ap, arith, inl, inr, length, option_map, refl, subst, sym}
+use Rattle.std.proofs.Common.{◌≡◌, ◌<◌, ◌≤◌, ◌⊎◌, ◌∙◌, ◌++◌, ℕ, true, List, [], Option, Some, None, IfSome, ap, arith, inl, inr, length, option_map, refl, subst, sym}
 use Rattle.std.proofs.lemmas.Bool.{cases_lt}
-use Rattle.clap.specs.Words.{Text}
+use Rattle.std.proofs.lemmas.List.Elements.{Contains-append_left, Contains-append_right}
+use Rattle.cs_args.specs.Asked.{Text}
 use Rattle.cs_table.specs.Table.{nowhere}
 use Rattle.cs_crontab.specs.declared.fault.LineFault.TheVariants.{TooLong}
 use Rattle.cs_table.specs.declared.limits.TheConstants.{MAX_TABLE}
@@ -14,7 +15,7 @@ use Rattle.cs_files.specs.Reads.{IsRead, IsUnreadAt}
 use Rattle.cs_files.specs.Trouble.{IsHonestOf, IsUnread, NoTimeZone, TellsPath, Trouble, Unread, ends, trouble, trouble_status}
 use Rattle.cs_files.specs.declared.fault.Fault.{Fault}
 use Rattle.cs_files.proofs.TroubleLemmas.{some_is}
-use Rattle.cs_lint.specs.Answer.{AreHeld, AreHeldTables, HasNoZone, IfAllKnown, IfKnown, IfShort, IsLong, IsShort, IsNoZone, IsSomeUpTo, IsTrueOf, IsUnreadFile, IsUnreadZone, IsUnreadable, LintsFiles, TellsZone}
+use Rattle.cs_lint.specs.Answer.{AreHeld, AreHeldTables, HasNoZone, IfAllKnown, IfKnown, IfShort, IsLong, IsNoNameIn, IsShort, IsNoZone, IsSomeUpTo, IsTrueOf, IsUnreadFile, IsUnreadZone, IsUnreadable, LintsFiles, TellsZone}
 
 -- a file can't be read, or is not a time zone file
 pub unread_answer : (a : AskedLint) (files : List ℕ → Option (List ℕ)) (before after : Failed) (e : Fault) (r : Ending) → IfSome (trouble e) (IsUnreadable a files before after) → option_map (ends []) (trouble e) ≡ Some r → LintsFiles a files before after r
@@ -184,3 +185,10 @@ zone_is_honest failed reads path bytes e = by_trouble (trouble e)
         → IfSome o (λ t. trouble_status t ≡ 6 → (unread : Text) × IsUnread unread failed reads × TellsPath unread t)
     by_trouble None is = tt
     by_trouble (Some t) (is, none) = λ six. absurd (let s : trouble_status t ≡ 3 = ap trouble_status is in omega (arith, s, six))
+
+-- a name in some words is in more of them
+pub no_name_left : (xs ys : List Text) (r : Ending) → IsNoNameIn xs r → IsNoNameIn (xs ++ ys) r
+no_name_left xs ys r (name, (word, has, is), status, out) = (name, (word, Contains-append_left xs ys word has, is), status, out)
+
+pub no_name_right : (xs ys : List Text) (r : Ending) → IsNoNameIn ys r → IsNoNameIn (xs ++ ys) r
+no_name_right xs ys r (name, (word, has, is), status, out) = (name, (word, Contains-append_right xs ys word has, is), status, out)

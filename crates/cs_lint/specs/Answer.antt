@@ -2,7 +2,7 @@
 use Rattle.std.specs.Prelude.{◌≡◌, ◌≢◌, ◌≤◌, ◌<◌, ◌⊎◌, ◌==◌, ◌++◌, ℕ, false, true, List, [], Option, Some, None, IfSome}
 use Rattle.std.specs.Prelude.{Contains, IsErr, is_none, is_some, length}
 use Rattle.std.specs.List.{find, list_any, slice_split}
-use Rattle.clap.specs.Words.{Text}
+use Rattle.cs_args.specs.Asked.{Text}
 use Rattle.jiff_tz.specs.Tzif.{HasBadRule}
 use Rattle.jiff_tz.specs.TzifReader.{read_tzif}
 use Rattle.cs_table.specs.declared.limits.TheConstants.{MAX_TABLE}
@@ -62,6 +62,11 @@ AreNamed words = list_any (λ word. is_some (no_name_in word)) words ≡ false
 abbrev pub IsNoName : List Text → Text → Type 0
 IsNoName words name = (word : Text) × Contains words word × (no_name_in word ≡ Some name)
 
+-- such a name is in the words, and the status is 4
+abbrev pub IsNoNameIn : List Text → Ending → Type 0
+IsNoNameIn words ending =
+    (name : Text) × IsNoName words name × (ending.status ≡ 4) × (ending.out ≡ [])
+
 abbrev pub TellsZone : Option Text → Trouble → Type 0
 TellsZone path t = (zone : Text) × (path ≡ Some zone) × (t ≡ NoTimeZone zone)
 
@@ -90,8 +95,7 @@ LintsFiles a files before after ending =
 abbrev pub AnswersLint : AskedLint → (List ℕ → Option (List ℕ)) → Failed → Failed → Ending
     → Type 0
 AnswersLint a files before after ending =
-    ((name : Text) × IsNoName (a.only ++ a.except) name × (after ≡ before) × (ending.status ≡ 4)
-    × (ending.out ≡ []))
+    ((after ≡ before) × IsNoNameIn (a.only ++ a.except) ending)
     ⊎ (AreNamed a.only × AreNamed a.except × LintsFiles a files before after ending)
 
 abbrev pub IsUnreadFile : Fault → Type 0

@@ -1,5 +1,5 @@
 //! The subcommand `lint`.
-ghost use Rattle.std.specs.Prelude.{◌≡◌, ◌≢◌, ◌≤◌, ℕ, List, [], Option, true, IfErr, IfOk, IfSome, OnOk, Some, is_none, length, map, option_map};
+ghost use Rattle.std.specs.Prelude.{◌≡◌, ◌≢◌, ◌≤◌, ◌++◌, ℕ, List, [], Option, true, IfErr, IfOk, IfSome, OnOk, Some, is_none, length, map, option_map};
 ghost use Rattle.cs_args.specs.Asked.{asked_lint};
 ghost use Rattle.cs_table.specs.declared.limits.TheConstants.{MAX_TABLE};
 ghost use Rattle.cs_io.specs.Files.{AreReadInTurn, IsFresh};
@@ -9,17 +9,19 @@ ghost use Rattle.cs_files.specs.Trouble.{IsHonest, IsHonestOf, trouble};
 ghost use Rattle.cs_files.specs.Turn.{lint_paths, some_path, table_paths};
 ghost use Rattle.cs_explain.specs.Odd.{odd_named};
 ghost use Rattle.cs_lint.specs.Answer.{AnswersLint, AreHeld, AreHeldTables, AreNamed};
-ghost use Rattle.cs_lint.specs.Answer.{IfKnown, IsLinted, IsNoName, IsShort, IsSomeUpTo};
+ghost use Rattle.cs_lint.specs.Answer.{IfKnown, IsLinted, IsNoName, IsNoNameIn, IsShort, IsSomeUpTo};
 ghost use Rattle.cs_lint.specs.Answer.{IsTrueOf, IsUnreadFile, IsUnreadZone, IsUnreadable};
 ghost use Rattle.cs_lint.specs.Answer.{LintsFiles, no_name_in};
 
 use crate::changes::{Change, changes_in};
-use crate::files::{Texts, told_of};
-use crate::refusal::{Refusal, look_at};
-use cs_args::LintWords;
+use crate::files::{Report, Texts, told_of};
+use crate::refusal::{Looked, Refusal, look_at};
+use crate::wanted::{Asked, Wanted};
+use cs_args::{Format, LintWords};
 use cs_civil::Bytes;
 use cs_explain::{nearest_odd, no_such_name, odd_name};
 use cs_files::{Fault, Response, Status, all_bytes_at, bytes_at};
+use cs_findings::{Finding, TableStatus, written};
 use cs_io::Inputs;
 use cs_plan::Plan;
 use cs_table::MAX_TABLE;
@@ -178,18 +180,94 @@ fn status_for(plan: &Result<Option<Plan>, Refusal>, is_odd: bool, faults_only: b
     }
 }
 
+/// What is found in texts, and the status of a call for these alone.
+#[derive(Drop)]
+pub struct Linted<'a> {
+    /// 3 if a reader refuses the files, 1 if something is odd that is asked for, else 0.
+    pub status: Status,
+    /// Lines for people; empty in another form.
+    pub text: Vec<u8>,
+    /// The findings in another form; none for people.
+    pub findings: Vec<Finding<'a>>,
+}
+
+fn report_on<'a>(
+    alloc: Global,
+    request: Asked<'a, '_>,
+    texts: &Texts,
+    looked: &Looked,
+) -> Result<Linted<'a>, AllocError>
+    ensures value { (table : List ℕ) (jobs declarations : Option (List ℕ))
+        → Finds looked.now.plan table jobs declarations
+        → IfOk result (λ linted. Judges (status_of linted.status) table jobs declarations) }
+    ensures only { IfOk result
+        (λ linted. request.entry.wanted.faults_only ≡ true → status_of linted.status ≢ 1) }
+{
+    let Report {
+        text,
+        findings,
+        is_odd,
+    } = told_of(alloc, request, texts, looked)?;
+    Ok(Linted {
+        status: status_for(&looked.plan, is_odd, request.wanted.faults_only),
+        text,
+        findings,
+    })
+}
+
+/// Finds all that is wrong or odd in texts, in the form that is asked for. The only error is out of
+/// memory.
+pub fn lint_texts<'a>(
+    alloc: Global,
+    request: Asked<'a, '_>,
+    texts: &Texts,
+) -> Result<Linted<'a>, AllocError>
+    ensures value { IfOk result (λ linted. Judges (status_of linted.status) texts.now.table.items
+        (option_map (λ v. v.items) texts.now.jobs)
+        (option_map (λ v. v.items) texts.now.declarations)) }
+    ensures faults { IfOk result
+        (λ linted. request.entry.wanted.faults_only ≡ true → status_of linted.status ≢ 1) }
+{
+    let table = texts.table.as_slice();
+    let jobs = some_bytes(&texts.jobs);
+    let declarations = some_bytes(&texts.declarations);
+    let looked = look_at(alloc, table, jobs, declarations)?;
+    let linted = report_on(alloc, request, texts, &looked);
+    drop(looked);
+    linted
+}
+
 fn show(alloc: Global, request: &LintWords<'_>, texts: &Texts) -> Result<Response, AllocError>
     ensures value { IfOk result (IsLinted texts.now.table.items
         (option_map (λ v. v.items) texts.now.jobs)
         (option_map (λ v. v.items) texts.now.declarations)) }
     ensures faults { IfOk result (λ r. request.now.faults_only ≡ true → r.status ≢ 1) }
 {
-    let table = texts.table.as_slice();
-    let jobs = some_bytes(&texts.jobs);
-    let declarations = some_bytes(&texts.declarations);
-    let looked = look_at(alloc, table, jobs, declarations)?;
-    let (text, is_odd) = told_of(alloc, request, texts, &looked)?;
-    let status = status_for(&looked.plan, is_odd, request.faults_only);
+    let asked = Asked {
+        table: request.table,
+        declarations: request.declarations,
+        anacrontab: request.anacrontab,
+        wanted: Wanted {
+            only: request.only.as_slice(),
+            except: request.except.as_slice(),
+            faults_only: request.faults_only,
+        },
+        format: request.format,
+    };
+    let Linted {
+        status,
+        text,
+        findings,
+    } = lint_texts(alloc, asked, texts)?;
+    let tables = [TableStatus {
+        table: request.table,
+        status: status.code(),
+        verdict: None,
+    }];
+    let text = match request.format {
+        Format::Text => text,
+        format => written(alloc, format, findings.as_slice(), tables.as_slice())?,
+    };
     Ok(Response::told(status, text, Bytes::new(alloc)))
 }
 
@@ -226,6 +304,20 @@ fn unknown_name(alloc: Global, name: &str) -> Result<Response, AllocError>
     Ok(Response::no_call(alloc, no_such_name(alloc, name, near)?))
 }
 
+/// The answer to a name in the words of `--only` or `--except` that no odd finding has; none if
+/// there is no such name. The only error is out of memory.
+pub fn refuse_names(alloc: Global, words: &[&str]) -> Result<Option<Response>, AllocError>
+    ensures some { IfOk result
+        (λ found. IfSome found (IsNoNameIn (map (λ word. word.now) words.now))) }
+    ensures none { IfOk result
+        (λ found. is_none found ≡ true → AreNamed (map (λ word. word.now) words.now)) }
+{
+    match unknown_in(words) {
+        Some(name) => Ok(Some(unknown_name(alloc, name)?)),
+        None => Ok(None),
+    }
+}
+
 fn lint_files<I: Inputs>(
     alloc: Global,
     request: &LintWords<'_>,
@@ -246,7 +338,7 @@ fn lint_files<I: Inputs>(
 }
 
 /// Answers `lint TABLE [DECLS] [--anacrontab FILE] [--zone FILE] [--only NAME].. [--except NAME]..
-/// [--faults-only]`; `--zone` looks for changes of clocks after `now`. The only error is out of
+/// [--faults-only] [--format FORMAT]`; `--zone` looks for changes of clocks after `now`. The only error is out of
 /// memory.
 pub fn answer_lint<I: Inputs>(
     alloc: Global,
@@ -261,11 +353,11 @@ pub fn answer_lint<I: Inputs>(
     ensures turn { AreReadInTurn (lint_paths (asked_lint request.now))
         (I.reads inputs.old) (I.reads inputs.new) }
 {
-    if let Some(name) = unknown_in(request.only.as_slice()) {
-        return Ok(unknown_name(alloc, name)?);
+    if let Some(response) = refuse_names(alloc, request.only.as_slice())? {
+        return Ok(response);
     }
-    if let Some(name) = unknown_in(request.except.as_slice()) {
-        return Ok(unknown_name(alloc, name)?);
+    if let Some(response) = refuse_names(alloc, request.except.as_slice())? {
+        return Ok(response);
     }
     lint_files(alloc, request, now, inputs)
 }

@@ -1,24 +1,62 @@
 //! Findings in all files of a call.
+ghost use Rattle.std.specs.Prelude.{◌≡◌};
+
 use crate::answer::some_bytes;
 use crate::changes::Change;
 use crate::declared::Declared;
 use crate::planned::held_in;
 use crate::refusal::{Looked, Refusal};
 use crate::table::{Beside, Table};
-use crate::wanted::Wanted;
-use cs_args::LintWords;
-use cs_diagnostics::{Done, File, Findings, TableKind, notes_on, parsed, places_in};
+use crate::wanted::{Asked, Wanted};
+use cs_args::Format;
+use cs_diagnostics::{Done, File, Findings, Level, TableKind, Told, notes_on, parsed, places_in};
 use cs_files::are_jobs;
+use cs_findings::Finding;
 use cs_place::Place;
+use cs_plan::Plan;
 use std::alloc::{AllocError, Global};
 
+/// The texts of the files of a call.
 #[derive(Drop)]
-pub(crate) struct Texts {
-    pub(crate) table: Vec<u8>,
-    pub(crate) jobs: Option<Vec<u8>>,
-    pub(crate) declarations: Option<Vec<u8>>,
+pub struct Texts {
+    /// The crontab.
+    pub table: Vec<u8>,
+    /// The anacrontab, if there is one.
+    pub jobs: Option<Vec<u8>>,
+    /// The declarations, if there are any.
+    pub declarations: Option<Vec<u8>>,
     /// The next changes of the zone's clocks; none without `--zone`.
     pub(crate) changes: Vec<Change>,
+}
+
+impl Texts {
+    /// Texts beside which no zone is given.
+    pub fn new(
+        alloc: Global,
+        table: Vec<u8>,
+        jobs: Option<Vec<u8>>,
+        declarations: Option<Vec<u8>>,
+    ) -> Texts
+        ensures { (result.table ≡ table) × (result.jobs ≡ jobs)
+            × (result.declarations ≡ declarations) }
+    {
+        Texts {
+            table,
+            jobs,
+            declarations,
+            changes: Vec::new(alloc),
+        }
+    }
+}
+
+/// What is found in the files of a call.
+#[derive(Drop)]
+pub(crate) struct Report<'a> {
+    /// Lines for people; empty in another form.
+    pub(crate) text: Vec<u8>,
+    /// The findings in another form; none for people.
+    pub(crate) findings: Vec<Finding<'a>>,
+    pub(crate) is_odd: bool,
 }
 
 #[derive(Drop)]
@@ -28,6 +66,41 @@ struct Found {
     clock: Findings,
     jobs: Findings,
     declared: Findings,
+}
+
+const AS_JOBS: &str = "the table reads as an anacrontab: give it with --anacrontab";
+
+/// That the crontab reads as an anacrontab; a fault is the one of its reader.
+fn as_jobs(alloc: Global, plan: &Result<Option<Plan>, Refusal>) -> Result<Told, AllocError> {
+    let (level, words) = match plan {
+        Err(Refusal::Table(first)) => (
+            Level::Error,
+            format!(in alloc; "{}: {AS_JOBS}", first.name)?,
+        ),
+        _ => (Level::Warning, String::from_str(alloc, AS_JOBS)?),
+    };
+    Ok(Told {
+        line: 1,
+        column: 1,
+        end: 1,
+        level,
+        words,
+        text: Vec::new(alloc),
+    })
+}
+
+fn push_findings<'a>(
+    findings: &Findings,
+    path: &'a str,
+    bytes: &[u8],
+    all: &mut Vec<Finding<'a>>,
+) -> Done {
+    let mut told = Vec::new(findings.alloc);
+    findings.push_told(bytes, &mut told)?;
+    for one in told.iter() {
+        all.push(Finding::of(findings.alloc, path, one)?)?;
+    }
+    Ok(())
 }
 
 /// Checks the declarations, and both tables beside them.
@@ -106,7 +179,7 @@ impl Found {
     fn text(
         &self,
         alloc: Global,
-        request: &LintWords<'_>,
+        request: Asked<'_, '_>,
         texts: &Texts,
         places: &[Place],
         are_jobs: bool,
@@ -129,8 +202,7 @@ impl Found {
         let is_alone = are_jobs && is_refused;
         if are_jobs {
             let kind = if is_refused { "fault" } else { "odd" };
-            let why = "the table reads as an anacrontab: give it with --anacrontab";
-            let line = format!(in alloc; "{}:1:1: {kind}: {why}\n", table.path)?;
+            let line = format!(in alloc; "{}:1:1: {kind}: {AS_JOBS}\n", table.path)?;
             text.extend_from_slice(line.as_bytes())?;
         }
         if !is_alone {
@@ -144,25 +216,50 @@ impl Found {
         }
         Ok(text)
     }
+
+    /// What [`text`](Found::text) prints, in the same order, after `hint`; `is_alone` says whether
+    /// nothing else of the crontab is printed.
+    fn findings<'a>(
+        &self,
+        alloc: Global,
+        request: Asked<'a, '_>,
+        texts: &Texts,
+        hint: Option<Told>,
+        is_alone: bool,
+    ) -> Result<Vec<Finding<'a>>, AllocError> {
+        let (path, table) = (request.table, texts.table.as_slice());
+        let jobs = some_bytes(&texts.jobs).unwrap_or(&[]);
+        let declarations = some_bytes(&texts.declarations).unwrap_or(&[]);
+        let mut all = Vec::new(alloc);
+        if let Some(hint) = hint {
+            all.push(Finding::of(alloc, path, &hint)?)?;
+        }
+        if !is_alone {
+            push_findings(&self.table, path, table, &mut all)?;
+        }
+        push_findings(&self.jobs, request.anacrontab.unwrap_or(""), jobs, &mut all)?;
+        let path_of_declarations = request.declarations.unwrap_or("");
+        push_findings(&self.declared, path_of_declarations, declarations, &mut all)?;
+        if !is_alone {
+            push_findings(&self.clock, path, table, &mut all)?;
+        }
+        Ok(all)
+    }
 }
 
-/// The report of all files, and whether something in them is odd.
+/// The findings in all files, for people or for programs, and whether something in them is odd.
 ///
 /// A fault begins with its number and name, as the reader gives them. All faults are reported, not
 /// only the first: of each field and item of a line, of each member and entry of declarations, and
 /// of all that doesn't fit together. Odd findings are reported if they are wanted. A table of more
 /// than 1 MiB isn't checked any further.
-pub(crate) fn told_of(
+pub(crate) fn told_of<'a>(
     alloc: Global,
-    request: &LintWords<'_>,
+    request: Asked<'a, '_>,
     texts: &Texts,
     looked: &Looked,
-) -> Result<(Vec<u8>, bool), AllocError> {
-    let wanted = Wanted {
-        only: request.only.as_slice(),
-        except: request.except.as_slice(),
-        faults_only: request.faults_only,
-    };
+) -> Result<Report<'a>, AllocError> {
+    let wanted = request.wanted;
     let places = places_in(alloc, texts.table.as_slice())?;
     let commands = match &looked.plan {
         Ok(Some(plan)) => held_in(alloc, plan)?,
@@ -181,14 +278,26 @@ pub(crate) fn told_of(
     let is_refused = matches!(looked.plan, Err(Refusal::Table(_)));
     let is_told = is_refused || wanted.tells("");
     let are_jobs = is_told && are_jobs(alloc, texts.table.as_slice())?;
-    let text = found.text(
-        alloc,
-        request,
-        texts,
-        places.as_slice(),
-        are_jobs,
-        is_refused,
-    )?;
     let is_odd = found.table.has_oddities || found.clock.has_oddities || found.jobs.has_oddities;
-    Ok((text, is_odd || found.declared.has_oddities || are_jobs))
+    let is_odd = is_odd || found.declared.has_oddities || are_jobs;
+    if request.format == Format::Text {
+        let places = places.as_slice();
+        let text = found.text(alloc, request, texts, places, are_jobs, is_refused)?;
+        return Ok(Report {
+            text,
+            findings: Vec::new(alloc),
+            is_odd,
+        });
+    }
+    let hint = if are_jobs {
+        Some(as_jobs(alloc, &looked.plan)?)
+    } else {
+        None
+    };
+    let findings = found.findings(alloc, request, texts, hint, are_jobs && is_refused)?;
+    Ok(Report {
+        text: Vec::new(alloc),
+        findings,
+        is_odd,
+    })
 }

@@ -15,4 +15,6 @@ mod refusal;
 mod table;
 mod wanted;
 
-pub use answer::answer_lint;
+pub use answer::{Linted, answer_lint, lint_texts, refuse_names};
+pub use files::Texts;
+pub use wanted::{Asked, Wanted};

@@ -1,3 +1,4 @@
+use cs_args::Format;
 use cs_diagnostics::{Done, Findings, Span};
 use std::fmt::Display;
 
@@ -5,11 +6,28 @@ use std::fmt::Display;
 /// between them, in any letter case; a finding without a name has the empty one. Faults are always
 /// reported.
 #[derive(Clone, Copy)]
-pub(crate) struct Wanted<'a> {
+pub struct Wanted<'a> {
     /// Only these; all if there are none.
-    pub(crate) only: &'a [&'a str],
-    pub(crate) except: &'a [&'a str],
-    pub(crate) faults_only: bool,
+    pub only: &'a [&'a str],
+    /// Not these.
+    pub except: &'a [&'a str],
+    /// None of them.
+    pub faults_only: bool,
+}
+
+/// What is asked of texts.
+#[derive(Clone, Copy)]
+pub struct Asked<'a, 'w> {
+    /// The path of the crontab.
+    pub table: &'a str,
+    /// The path of the declarations.
+    pub declarations: Option<&'a str>,
+    /// The path of the anacrontab.
+    pub anacrontab: Option<&'a str>,
+    /// Which odd findings are reported.
+    pub wanted: Wanted<'w>,
+    /// The form in which findings are printed.
+    pub format: Format,
 }
 
 /// Whether the name is in the word, in any letter case.

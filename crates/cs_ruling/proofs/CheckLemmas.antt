@@ -10,6 +10,7 @@ use Rattle.cs_claims.specs.declared.certificate.Certificate.{Certificate}
 use Rattle.cs_claims.specs.declared.fault.CertFault.TheVariants.{TooLong}
 use Rattle.cs_claims.specs.declared.limits.TheConstants.{MAX_CERTIFICATE}
 use Rattle.cs_theorem.specs.Faults.{Fault as Broken}
+use Rattle.cs_theorem.specs.declared.check_fault.CheckFault.{CheckFault}
 use Rattle.cs_check.specs.Case.{fault_of}
 use Rattle.cs_check.specs.Checked.{certificate_in, plan_in}
 use Rattle.cs_check.specs.declared.checked.Checked.{Checked}
@@ -25,7 +26,7 @@ use Rattle.cs_ruling.specs.declared.check.Claimed.{Claimed}
 use Rattle.cs_ruling.specs.declared.check.Digests.{Digests}
 use Rattle.cs_files.specs.Reads.{IsRead, MeansIt, without_rest}
 use Rattle.cs_files.specs.declared.fault.Fault.{Fault as FilesFault}
-use Rattle.clap.specs.Words.{Text}
+use Rattle.cs_args.specs.Asked.{Text}
 use Rattle.sha2.specs.Sha256.{sha256}
 use Rattle.cs_files.specs.Response.{Ending}
 use Rattle.cs_files.specs.Trouble.{IsHonest, Trouble, ends, trouble, trouble_status}
@@ -33,32 +34,32 @@ use Rattle.cs_io.specs.Files.{Failed, IsFresh, IsUpTo, Reads}
 use Rattle.cs_files.specs.Trouble.{InAnacrontab, InCertificate, InCrontab, InDeclarations, InGathered, InScript, InWords, NoTimeZone, Unread}
 
 -- what the checker accepts of what is claimed
-pub accepted : (x : Claimed) (checked : Checked) (places : List Place) (ruled : Result Checked Ending)
+pub accepted : (x : Claimed) (checked : Checked) (places : List Place) (ruled : Result Checked (Ending × CheckFault))
     → places ≡ x.planned.places → ruled ≡ Ok checked → IsVerdict x.planned.plan places (fault_of x.planned.plan (content x.certificate)) (answer_of ruled)
     → IfOk ruled (λ c. (plan_in c ≡ x.planned.plan) × (certificate_in c ≡ content x.certificate)) → IfOk ruled IsSafe → IsAccepted x checked
 accepted x checked places ruled same is verdict kept safe =
     let fault = fault_of x.planned.plan (content x.certificate) in
-    let pair = subst (λ (r : Result Checked Ending). IfOk r (λ c. (plan_in c ≡ x.planned.plan) × (certificate_in c ≡ content x.certificate))) is kept in
+    let pair = subst (λ (r : Result Checked (Ending × CheckFault)). IfOk r (λ c. (plan_in c ≡ x.planned.plan) × (certificate_in c ≡ content x.certificate))) is kept in
     record {
       plan = pair.0;
       certificate = pair.1;
-      verdict = subst (λ (ps : List Place). IsVerdict x.planned.plan ps fault (answer_of (Ok checked))) same (subst (λ (r : Result Checked Ending). IsVerdict x.planned.plan places fault (answer_of r)) is verdict);
-      safe = subst (λ (r : Result Checked Ending). IfOk r IsSafe) is safe;
+      verdict = subst (λ (ps : List Place). IsVerdict x.planned.plan ps fault (answer_of (Ok checked))) same (subst (λ (r : Result Checked (Ending × CheckFault)). IsVerdict x.planned.plan places fault (answer_of r)) is verdict);
+      safe = subst (λ (r : Result Checked (Ending × CheckFault)). IfOk r IsSafe) is safe;
     }
 
 -- and what it refuses
-pub refused : (x : Claimed) (answer : Ending) (places : List Place) (ruled : Result Checked Ending)
+pub refused : (x : Claimed) (answer : Ending × CheckFault) (places : List Place) (ruled : Result Checked (Ending × CheckFault))
     → places ≡ x.planned.places → ruled ≡ Err answer → IsVerdict x.planned.plan places (fault_of x.planned.plan (content x.certificate)) (answer_of ruled)
-    → IfErr ruled (λ a. a.status ≡ 1) → IsVerdictOn x answer × (answer.status ≡ 1)
+    → IfErr ruled (λ a. a.0.status ≡ 1) → IsVerdictOn x answer.0 × (answer.0.status ≡ 1)
 refused x answer places ruled same is verdict one =
     let fault = fault_of x.planned.plan (content x.certificate) in (
-      subst (λ (ps : List Place). IsVerdict x.planned.plan ps fault answer) same (subst (λ (r : Result Checked Ending). IsVerdict x.planned.plan places fault (answer_of r)) is verdict),
-      subst (λ (r : Result Checked Ending). IfErr r (λ a. a.status ≡ 1)) is one,
+      subst (λ (ps : List Place). IsVerdict x.planned.plan ps fault answer.0) same (subst (λ (r : Result Checked (Ending × CheckFault)). IsVerdict x.planned.plan places fault (answer_of r)) is verdict),
+      subst (λ (r : Result Checked (Ending × CheckFault)). IfErr r (λ a. a.0.status ≡ 1)) is one,
     )
 
-pub refused_reply : (x : Claimed) (answer : Ending) (places : List Place) (ruled : Result Checked Ending)
+pub refused_reply : (x : Claimed) (answer : Ending × CheckFault) (places : List Place) (ruled : Result Checked (Ending × CheckFault))
     → places ≡ x.planned.places → ruled ≡ Err answer → IsVerdict x.planned.plan places (fault_of x.planned.plan (content x.certificate)) (answer_of ruled)
-    → IfErr ruled (λ a. a.status ≡ 1) → IsReplyOn x answer
+    → IfErr ruled (λ a. a.0.status ≡ 1) → IsReplyOn x answer.0
 refused_reply x answer places ruled same is verdict one =
     let (said, status) = refused x answer places ruled same is verdict one in
     record { verdict = said; safe = λ zero. absurd (cc) }

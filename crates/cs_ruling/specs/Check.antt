@@ -3,11 +3,13 @@
 use Rattle.std.specs.Prelude.{◌≡◌, ◌⊎◌, ℕ, List, ◌∷◌, ◌++◌, [], Option, Some, None, Result}
 use Rattle.std.specs.Prelude.{Ok, Err, IfSome, codes}
 use Rattle.std.specs.Result.{result_map_both}
-use Rattle.clap.specs.Words.{Text}
+use Rattle.cs_args.specs.Asked.{Text}
 use Rattle.sha2.specs.Sha256.{sha256}
 use Rattle.cs_plan.specs.Plan.{Declared}
 use Rattle.cs_place.specs.Places.{places_told}
 use Rattle.cs_place.specs.declared.places.Place.{Place}
+use Rattle.cs_theorem.specs.Told.{told}
+use Rattle.cs_theorem.specs.declared.check_fault.CheckFault.{CheckFault}
 use Rattle.cs_theorem.specs.Faults.{Fault, ClassNotDue, Missing, BacklogRises, ReachTooShort, WindowMissing, Collision, OverCapacity, SkipBlocked}
 use Rattle.cs_claims.specs.Certificate.{content}
 use Rattle.cs_claims.specs.Content.{Content}
@@ -143,9 +145,14 @@ IsVerdictOn x = IsVerdict x.planned.plan x.planned.places
 
 -- `safe` where the checker has accepted the plan, beside the notes on it, else what it says of the
 -- first rule
-abbrev pub answer_of : Result Checked Ending → Ending
+abbrev pub answer_of : Result Checked (Ending × CheckFault) → Ending
 answer_of (Ok checked) = done safe_text (plan_notes (plan_in checked))
-answer_of (Err answer) = answer
+answer_of (Err refused) = refused.0
+
+-- the first rule that isn't met
+abbrev pub refusal_of : Result Checked (Ending × CheckFault) → Option Fault
+refusal_of (Ok checked) = None
+refusal_of (Err refused) = Some (told refused.1)
 
 -- the answer to `check`: the verdict, or the first fault of a file, and no file is read before its
 -- own turn

@@ -1,7 +1,7 @@
 //! The subcommand `check`.
 ghost use denote.Param.Send.{IsSync};
 ghost use Rattle.std.specs.Prelude.{◌≡◌, ◌↔◌, ◌++◌, ℕ, IfErr, IfOk, IsTrue, List, None, OnOk, Some};
-ghost use Rattle.std.specs.Prelude.{⊤};
+ghost use Rattle.std.specs.Prelude.{⊤, option_map};
 ghost use Rattle.cs_check.specs.Checked.{Tells as TellsFault, certificate_in, plan_in};
 ghost use Rattle.cs_claims.specs.Certificate.{content};
 ghost use Rattle.cs_check.specs.Case.{fault_of};
@@ -10,7 +10,8 @@ ghost use Rattle.cs_report.specs.Warning.{plan_notes};
 ghost use Rattle.cs_args.specs.Asked.{asked_check};
 ghost use Rattle.cs_io.specs.Files.{AreReadInTurn, IsFresh, IsReadAlone};
 ghost use Rattle.cs_ruling.specs.Check.{AreOfTexts, FindsClaimed, IsDigestOf, IsVerdict};
-ghost use Rattle.cs_ruling.specs.Check.{ReadsCertificate, answer_of, fault_places, safe_text, said};
+ghost use Rattle.cs_ruling.specs.Check.{ReadsCertificate, answer_of, fault_places, refusal_of};
+ghost use Rattle.cs_ruling.specs.Check.{safe_text, said};
 ghost use Rattle.cs_ruling.specs.Check.{stale_note};
 ghost use Rattle.cs_ruling.specs.Safe.{IsReplyOn, IsSafe};
 ghost use Rattle.cs_files.specs.Asked.{Tells, Warns};
@@ -173,45 +174,65 @@ impl<R: Threads + Sync> Checker for SeveralThreads<'_, R> {
     }
 }
 
+/// The answer to a certificate that is refused, and the first rule that isn't met.
+pub type Refused = (Response, CheckFault);
+
 /// What the checker rules: the plan and the certificate that it accepts, or the answer to the first
-/// rule that isn't met.
+/// rule that isn't met, with that rule.
 #[tactic(auto, unfolding(crate::specs::Check::verdict_text))]
+fn ruling_on<C: Checker>(
+    checker: &C,
+    alloc: Global,
+    plan: &Plan,
+    places: &[Place],
+    certificate: Certificate,
+) -> Result<Result<Checked, Refused>, AllocError>
+    requires { C.can_check checker.now }
+    ensures answer { IfOk result (λ found. IsVerdict plan.now places.now
+        (fault_of plan.now (content certificate)) (answer_of found)) }
+    ensures same { IfOk result (λ found. IfOk found (λ checked.
+        (plan_in checked ≡ plan.now) × (certificate_in checked ≡ content certificate))) }
+    ensures safe { IfOk result (λ found. IfOk found IsSafe) }
+    ensures refused { IfOk result (λ found. IfErr found (λ refused. refused.0.status ≡ 1)) }
+    ensures fault { IfOk result
+        (λ found. refusal_of found ≡ fault_of plan.now (content certificate)) }
+{
+    let Ok(reach) = Vec::from_slice(alloc, certificate.reach()) else {
+        drop(certificate);
+        return Err(AllocError);
+    };
+    match checker.check(alloc, plan, certificate) {
+        Ok(checked) => {
+            checked.is_safe();
+            Ok(Ok(checked))
+        }
+        Err(CheckError::Fault(fault)) => {
+            let answer = refusal(alloc, plan, places, reach.as_slice(), &fault)?;
+            Ok(Err((answer, fault)))
+        }
+        Err(CheckError::OutOfMemory) => Err(AllocError),
+    }
+}
+
+/// The same of a plan that nobody needs any more.
 pub(crate) fn ruling<C: Checker>(
     checker: &C,
     alloc: Global,
     plan: Plan,
     places: &[Place],
     certificate: Certificate,
-) -> Result<Result<Checked, Response>, AllocError>
+) -> Result<Result<Checked, Refused>, AllocError>
     requires { C.can_check checker.now }
     ensures answer { IfOk result (λ found. IsVerdict plan places.now
         (fault_of plan (content certificate)) (answer_of found)) }
     ensures same { IfOk result (λ found. IfOk found
         (λ checked. (plan_in checked ≡ plan) × (certificate_in checked ≡ content certificate))) }
     ensures safe { IfOk result (λ found. IfOk found IsSafe) }
-    ensures refused { IfOk result (λ found. IfErr found (λ answer. answer.status ≡ 1)) }
+    ensures refused { IfOk result (λ found. IfErr found (λ refused. refused.0.status ≡ 1)) }
 {
-    let Ok(reach) = Vec::from_slice(alloc, certificate.reach()) else {
-        drop(plan);
-        drop(certificate);
-        return Err(AllocError);
-    };
-    match checker.check(alloc, &plan, certificate) {
-        Ok(checked) => {
-            drop(plan);
-            checked.is_safe();
-            Ok(Ok(checked))
-        }
-        Err(CheckError::Fault(fault)) => {
-            let answer = refusal(alloc, &plan, places, reach.as_slice(), &fault);
-            drop(plan);
-            Ok(Err(answer?))
-        }
-        Err(CheckError::OutOfMemory) => {
-            drop(plan);
-            Err(AllocError)
-        }
-    }
+    let found = ruling_on(checker, alloc, &plan, places, certificate);
+    drop(plan);
+    found
 }
 
 /// What the files of `check` hold.
@@ -268,33 +289,36 @@ fn acceptance(alloc: Global, plan: &Plan) -> Result<Response, AllocError>
     Ok(Response::done(text, plan_notes(alloc, plan)?))
 }
 
-/// Answers `check TABLE DECLS CERT [--anacrontab FILE]`.
+/// Answers `check TABLE DECLS CERT [--anacrontab FILE]`, for a plan with these places and the
+/// certificate that is claimed for it; and gives the first rule that isn't met.
 pub fn answer_check<R: Threads + Sync>(
     rt: &R,
     alloc: Global,
-    claimed: Claimed,
-) -> Result<Response, AllocError>
-    ensures { IfOk result (IsReplyOn claimed) }
+    planned: &Planned,
+    certificate: Certificate,
+) -> Result<(Response, Option<CheckFault>), AllocError>
+    ensures answer { IfOk result (λ found. (digests : Digests) → IsReplyOn
+        (record { planned = planned.now; certificate = certificate; digests = digests }) found.0) }
+    ensures fault { IfOk result (λ found. option_map told found.1
+        ≡ fault_of planned.now.plan (content certificate)) }
 {
-    let Claimed {
-        planned,
-        certificate,
-        ..
-    } = claimed;
-    let Planned { plan, places, .. } = planned;
-    let ruled = ruling(
+    let ruled = ruling_on(
         &SeveralThreads(rt),
         alloc,
-        plan,
-        places.as_slice(),
+        &planned.plan,
+        planned.places.as_slice(),
         certificate,
     )?;
     match ruled {
         Ok(checked) => {
-            let answer = acceptance(alloc, checked.plan());
+            let accepted = acceptance(alloc, checked.plan());
             drop(checked);
-            answer
+            let answer = accepted?;
+            Ok((answer, None))
         }
-        Err(answer) => Ok(answer),
+        Err(refused) => {
+            let (answer, fault) = refused;
+            Ok((answer, Some(fault)))
+        }
     }
 }

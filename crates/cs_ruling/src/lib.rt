@@ -9,7 +9,7 @@ mod overload;
 mod places;
 
 pub use answer::{Answer, Order};
-pub use check::{Claimed, Digests, answer_check, find_claimed};
+pub use check::{Claimed, Digests, Refused, answer_check, find_claimed};
 pub use loads::what_a_minute_needs;
 pub use order::{answer_run, answer_run_alone};
-pub use places::{fault_takers, push_fault_places};
+pub use places::{fault_takers, jobs_of, push_fault_places};

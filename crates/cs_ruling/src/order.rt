@@ -65,7 +65,11 @@ fn answer_by<'a, C: Checker>(
     let ruled = ruling(checker, alloc, plan, listed, certificate)?;
     let checked = match ruled {
         Ok(checked) => checked,
-        Err(answer) => return Ok(Answer::Ends(answer)),
+        Err(refused) => {
+            let (answer, fault) = refused;
+            drop(fault);
+            return Ok(Answer::Ends(answer));
+        }
     };
     let text = table.as_slice();
     let crontab = checked.plan().crontab();

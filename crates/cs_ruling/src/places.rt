@@ -9,7 +9,8 @@ use cs_theorem::CheckFault;
 use cs_verdict::taker_notes;
 use std::alloc::{AllocError, Global};
 
-fn jobs_of(alloc: Global, fault: &CheckFault) -> Result<Vec<usize>, AllocError>
+/// The jobs that a fault names, by number, in its order.
+pub fn jobs_of(alloc: Global, fault: &CheckFault) -> Result<Vec<usize>, AllocError>
     ensures { IfOk result (λ jobs. jobs.items ≡ jobs_of (told fault.now)) }
 {
     match fault {

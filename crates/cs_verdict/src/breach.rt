@@ -63,7 +63,7 @@ fn is_in_the_way(plan: &Plan, one: u16, other: u16) -> bool {
 
 /// Whether the run takes part in what is broken: it is one of two that may not run together, it
 /// weighs, or it keeps the lock from the job that is skipped.
-pub(crate) fn takes_part(plan: &Plan, shown: Shown, run: Run) -> bool {
+pub fn takes_part(plan: &Plan, shown: Shown, run: Run) -> bool {
     match shown {
         Shown::Together(one, other) => run == one || run == other,
         Shown::Load(_) => true,

@@ -4,10 +4,9 @@ use Rattle.cs_args.specs.Asked.{asking}
 use Rattle.cs_args.specs.CommandLine.{Parses}
 use Rattle.cs_args.specs.declared.request.UsageFault.{UsageFault}
 use Rattle.cs_files.specs.Response.{Ending}
-use Rattle.cs_files.proofs.AskedLemmas.{fault_answered, tries_nothing}
-use Rattle.cs_files.proofs.TroubleLemmas.{honest_fault}
-use Rattle.cronsafe_aids.specs.Call.{AnswersAsked}
-use Rattle.cronsafe_aids.proofs.Replies.{honest_reply}
+use Rattle.cs_files.proofs.AskedLemmas.{tries_nothing}
+use Rattle.cronsafe_aids.specs.Call.{AnswersText, form_of}
+use Rattle.cronsafe_aids.proofs.Replies.{fault_in_form, honest_in_form, honest_reply}
 use Rattle.cronsafe_aids.proofs.responding.respond.Goals as goal
 
 pub returns-in-Ok-find_task-clause-value : goal.returns-in-Ok-find_task-clause-value
@@ -17,17 +16,17 @@ returns-in-Ok-find_task-clause-value g c = λ fresh.
     (w, told, (inl (a, c.in-Ok.ensures, warns), IfOk-weaker c.answer.result _ _ (λ r is. inl (a, c.in-Ok.ensures, leads r is)) c.answer.ensures.reply))
 
 pub returns-in-Ok-find_task-clause-status : goal.returns-in-Ok-find_task-clause-status
-returns-in-Ok-find_task-clause-status g c = IfOk-weaker c.answer.result _ _ (λ r done. honest_reply _ _ c.in-Ok-find_task.task r c.in-Ok-find_task.ensures.ready done) c.answer.ensures.done
+returns-in-Ok-find_task-clause-status g c = IfOk-weaker c.answer.result _ _ (λ r done. honest_reply _ (asking c.in-Ok.request) _ _ c.in-Ok-find_task.task r c.in-Ok.ensures c.in-Ok-find_task.ensures.ready done) c.answer.ensures.done
 
 pub returns-in-Err-clause-value : goal.returns-in-Err-clause-value
 returns-in-Err-clause-value g c = λ fresh.
     let (w, told, (warns, came)) = c.in-Err.ensures.value fresh in
     let a = asking c.in-Ok.request in
-    let Answered : Ending → Type 0 = AnswersAsked c.args.now a g.I.Folders.tree (g.I.Inputs.whole c.args.inputs.now) w (g.I.Inputs.failed c.args.inputs.now) (g.I.Inputs.failed c.find_task.new.inputs) in
-    (w, told, (inl (a, c.in-Ok.ensures, warns), IfOk-weaker c.response.result _ _ (λ r said. inl (a, c.in-Ok.ensures, fault_answered Answered c.as_slice.result.now c.in-Err.fault r c.as_slice.ensures came said)) c.response.ensures))
+    let Answered : Ending → Type 0 = AnswersText c.args.now a g.I.Folders.tree (g.I.Inputs.whole c.args.inputs.now) w (g.I.Inputs.failed c.args.inputs.now) (g.I.Inputs.failed c.find_task.new.inputs) in
+    (w, told, (inl (a, c.in-Ok.ensures, warns), IfOk-weaker c.answer_fault.result _ _ (λ r said. inl (a, c.in-Ok.ensures, fault_in_form Answered _ (form_of a) c.in-Err.fault r c.words_in_form-words.ensures came said)) c.answer_fault.ensures.value))
 
 pub returns-in-Err-clause-status : goal.returns-in-Err-clause-status
-returns-in-Err-clause-status g c = IfOk-weaker c.response.result _ _ (λ r said. honest_fault _ _ c.as_slice.result.now c.in-Err.fault r c.in-Err.ensures.status said) c.response.ensures
+returns-in-Err-clause-status g c = IfOk-weaker c.answer_fault.result _ _ (λ r said. inr (honest_in_form _ _ c.in-Err.fault r c.in-Err.ensures.status said)) c.answer_fault.ensures.status
 
 pub returns-in-Err-Version-clause-value : goal.returns-in-Err-Version-clause-value
 returns-in-Err-Version-clause-value g c = λ fresh.

@@ -1,5 +1,5 @@
 use Rattle.std.proofs.Common.{◌≡◌, ◌<◌, ◌≤◌, ◌∙◌, ℕ, IsSome, List, Option, ap, inl, inr, length, subst}
-use Rattle.clap.specs.Words.{Text}
+use Rattle.cs_args.specs.Asked.{Text}
 use Rattle.cs_table.specs.declared.limits.TheConstants.{MAX_TABLE}
 use Rattle.cs_files.specs.Reads.{IsRead}
 use Rattle.cs_files.specs.Trouble.{IsUnread, TellsPath, Trouble, gathered_trouble, trouble_status}

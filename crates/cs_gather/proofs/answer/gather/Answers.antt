@@ -1,5 +1,5 @@
 use Rattle.std.proofs.Common.{◌≡◌, ◌++◌, ◌∙◌, [], List, IfSome, Some, inl, inr, map, option_map, subst, true}
-use Rattle.clap.specs.Words.{Text}
+use Rattle.cs_args.specs.Asked.{Text}
 use Rattle.cs_args.specs.Asked.{asked_gather}
 use Rattle.cs_io.specs.Files.{AreReadInTurn}
 use Rattle.cs_files.specs.Response.{Ending}

@@ -1,5 +1,5 @@
 use Rattle.std.proofs.Common.{◌≡◌, ◌∙◌, ◌++◌, Contains, None, ap, codes, inl, string_bytes, subst}
-use Rattle.clap.specs.Words.{Text}
+use Rattle.cs_args.specs.Asked.{Text}
 use Rattle.cs_gather.specs.Tables.{Given, IsBelow, found_table}
 use Rattle.cs_gather.proofs.ListingLemmas.{is_file, kept, last_of, maybe_more, no_file}
 use Rattle.cs_gather.proofs.below.push_crontab.Goals as goal

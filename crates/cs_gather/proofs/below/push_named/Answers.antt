@@ -1,5 +1,5 @@
 use Rattle.std.proofs.Common.{◌∙◌, Contains, ap, string_bytes, subst, sym}
-use Rattle.clap.specs.Words.{Text}
+use Rattle.cs_args.specs.Asked.{Text}
 use Rattle.cs_gather.specs.Tables.{IsBelow}
 use Rattle.cs_gather.specs.Listing.{FindsNamed, HasName, given_in}
 use Rattle.cs_gather.proofs.ListingLemmas.{is_below, is_file, kept, last_of, maybe_more}

@@ -1,7 +1,7 @@
 use Rattle.std.proofs.Common.{◌≡◌, ◌++◌, ◌∙◌, All, IfSome, List, Option, ap, arith, refl, subst, take}
 use Rattle.std.proofs.lemmas.List.{take_all}
 use Rattle.std.proofs.lemmas.List.Elements.{All-contains, All-more, All-nil, All-weaker}
-use Rattle.clap.specs.Words.{Text}
+use Rattle.cs_args.specs.Asked.{Text}
 use Rattle.cs_gather.specs.Tables.{IsIn}
 use Rattle.cs_gather.specs.Listing.{FindsNamed}
 use Rattle.cs_gather.proofs.ListingLemmas.{is_listed, none_listed}

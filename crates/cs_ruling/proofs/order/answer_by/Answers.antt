@@ -16,7 +16,7 @@ moved P text text' places places' table table' same_text same_places same_table 
 pub returns-in-Err : goal.returns-in-Err
 returns-in-Err g c =
     let r = c.in_ok-ruled.ensures in
-    inl (refused c.args.claimed c.in-Err.answer c.as_slice-listed.result.now c.in_ok-ruled.ruled c.as_slice-listed.ensures c.in-Err.is r.answer r.refused)
+    inl (refused c.args.claimed c.in-Err.refused c.as_slice-listed.result.now c.in_ok-ruled.ruled c.as_slice-listed.ensures c.in-Err.is r.answer r.refused)
 
 pub returns-in-Err-read_owners : goal.returns-in-Err-read_owners
 returns-in-Err-read_owners g c =

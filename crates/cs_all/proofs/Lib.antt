@@ -1,0 +1,2 @@
+pub mod Severity
+pub mod Each

@@ -1,0 +1,3 @@
+pub mod Next
+pub mod Text
+pub mod Answer

@@ -106,7 +106,9 @@ def folder_with(files):
     """Makes a folder of these files, whose names and texts are bytes, and takes it away again."""
     with tempfile.TemporaryDirectory(prefix="cronsafe-test-") as folder:
         for name, text in files.items():
-            Path(folder, os.fsdecode(name)).write_bytes(text)
+            path = Path(folder, os.fsdecode(name))
+            path.parent.mkdir(parents=True, exist_ok=True)
+            path.write_bytes(text)
         yield Path(folder)
 
 

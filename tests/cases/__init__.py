@@ -6,7 +6,7 @@ case may have a file for itself, NAME.case, without that line. The name of the c
 SUBCOMMAND/NAME. It has these sections, each once and in any order:
 
   --- call        the call as one line of a shell, as 'cronsafe judge crontab evening.json'
-  --- file NAME   a file that a word of the calls names
+  --- file NAME   a file that a word of the calls names, or that is in a folder that one names
   --- stdin       standard input; without this section it is empty
   --- status N    the exit status; this section has no text
   --- stdout      the whole standard output; a line '*' takes one or more lines, YYYY-MM-DD any
@@ -32,7 +32,7 @@ from harness import BadUse
 
 FOLDER = Path(__file__).resolve().parent
 TITLE = re.compile(rb"=== ([a-z0-9_]+)")
-NAME = r"[^\s()/](?:[^()/]*[^\s()/])?"
+NAME = r"[^\s()/](?:[^()]*[^\s()/])?"
 HEAD = re.compile(
     rf"--- (call|stdin|stdout|stderr|then(?: stdout)?|(?:then )?status (\d{{1,3}})|file ({NAME}))"
     r"(?: \((escaped|no newline|escaped, no newline)\))?"
@@ -144,8 +144,8 @@ def shell_call(words, stdin):
 
 
 def is_named(name, words):
-    """Returns whether a word is that name, or an option with it after its equals sign."""
-    return any(word == name or word.endswith(b"=" + name) for word in words)
+    """Returns whether a word is that name, its folder, or an option with it after its equals sign."""
+    return any(word in (name, name.partition(b"/")[0]) or word.endswith(b"=" + name) for word in words)
 
 
 def is_met(wanted, got):

@@ -93,6 +93,9 @@ impl Walk {
                 self.left.push(path)?;
                 Ok(())
             }
+            Ok(Some(FileKind::Other)) if path.ends_with(TABLE) => {
+                self.push_unread(path, Reason::Unknown)
+            }
             Ok(Some(FileKind::Other)) => Ok(()),
             Ok(Some(_)) => self.push_file(inputs, path.as_str()),
             Ok(None) if path.ends_with(TABLE) => self.push_unread(path, Reason::Absent),

@@ -99,6 +99,7 @@ fn plan_at<'a, I: Inputs>(
     found: &'a Found,
 ) -> Result<Content<'a>, Fault<'a>> {
     let Some(declarations) = path_in(&found.declarations) else {
+        let _table = bytes_at(alloc, inputs, found.path.as_str(), MAX_TABLE as u32)?;
         return Ok(Content::Undeclared);
     };
     let certificate = path_in(&found.certificate);

@@ -75,7 +75,7 @@ fn push_gone_and_new(
     Ok(())
 }
 
-/// Adds a line for each change: jobs that went, that came, how many moved, and what is otherwise of
+/// Adds a line for each change: jobs that went, that came, lines that are left out, how many moved, and what is otherwise of
 /// the others and of the plan.
 pub(crate) fn push_changes(
     page: &mut Page,
@@ -84,6 +84,7 @@ pub(crate) fn push_changes(
     binding: &Binding,
 ) -> Result<(), AllocError> {
     push_gone_and_new(page, old, new, binding)?;
+    new.push_left_out(page, old)?;
     let mut changed = Page::new(page.alloc, page.markdown);
     let moved = push_changed(&mut changed, old, new, binding)?;
     if 0 < moved {

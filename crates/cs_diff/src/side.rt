@@ -1,8 +1,10 @@
 //! One of the two plans, and what people call its jobs.
+use crate::page::Page;
 use cs_crontab::Line;
 use cs_decl::{CronEntry, is_named};
 use cs_plan::{Plan, identifier_of};
 use cs_table::text::word;
+use std::alloc::AllocError;
 
 /// The plan before an edit, or the one after it.
 #[derive(Clone, Copy)]
@@ -36,6 +38,43 @@ fn last_part(path: &[u8]) -> &[u8] {
 }
 
 impl<'a> Side<'a> {
+    /// The line of that number, from 1.
+    fn text_of(self, number: u32) -> &'a [u8] {
+        let mut at = 0u32;
+        for line in self.text.split(|byte| *byte == b'\n') {
+            at = at.saturating_add(1);
+            if at == number {
+                return line;
+            }
+        }
+        &[]
+    }
+
+    fn leaves_out(self, text: &[u8]) -> bool {
+        for number in self.plan.left_out() {
+            if self.text_of(*number) == text {
+                return true;
+            }
+        }
+        false
+    }
+
+    /// Adds `left out: line 2: LINE` for each line that is left out, and wasn't before.
+    pub(crate) fn push_left_out(self, page: &mut Page, old: Side<'_>) -> Result<(), AllocError> {
+        for number in self.plan.left_out() {
+            let line = self.text_of(*number);
+            if !old.leaves_out(line) {
+                page.begin()?;
+                page.words("left out: line ")?;
+                page.number(u64::from(*number))?;
+                page.words(": ")?;
+                page.code(line)?;
+                page.end()?;
+            }
+        }
+        Ok(())
+    }
+
     pub(crate) fn line(self, job: u16) -> Option<&'a Line> {
         self.plan.crontab().lines().get(usize::from(job))
     }

@@ -1,0 +1,3 @@
+pub mod Zone
+pub mod Wall
+pub mod Starts

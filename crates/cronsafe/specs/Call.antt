@@ -6,7 +6,7 @@ use Rattle.cs_args.specs.Asked.{Apply, AskedApply, Asking, Check, Day, Help, Jud
 use Rattle.cs_args.specs.declared.request.Format.{Format}
 use Rattle.cs_args.specs.declared.request.Format.TheVariants.{Text as text}
 use Rattle.cs_args.specs.CommandLine.{Asks}
-use Rattle.cs_args.specs.Asked.{Replay, Run, Status, Stop}
+use Rattle.cs_args.specs.Asked.{Replay, Run, Status, Stop, Wall}
 use Rattle.cs_args.specs.Asked.{asked_reload, asked_replay, asked_run, asked_status, asked_stop}
 use Rattle.cs_args.specs.CommandLine.{AsksHelp, AsksVersion, IsNoCall}
 use Rattle.cs_io.specs.Files.{Failed}
@@ -19,6 +19,7 @@ use Rattle.cs_files.specs.Usage.{IsRejected, ShowsHelp, ShowsVersion}
 use Rattle.cs_findings.specs.Format.{IsIn, IsShownAs}
 use Rattle.cs_show.specs.DayAnswer.{AnswersDay, shown}
 use Rattle.cs_show.specs.Replayed.{AnswersReplay, IsReplyTo}
+use Rattle.cs_show.specs.WallAnswer.{AnswersWall, IsRuleRefused, wall_shown}
 use Rattle.cs_ruling.specs.Answer.{AnswersRun, EndsAs, IsRuled}
 use Rattle.cs_ruling.specs.Safe.{IsChecked, IsReplyOn}
 use Rattle.cs_ruling.specs.declared.answer.Answer.{Answer}
@@ -50,6 +51,7 @@ AnswersApply a files w before failed answer =
 abbrev pub AnswersAsked : Asking → (List ℕ → Option (List ℕ)) → List ℕ → Failed → Failed → Answer
     → Type 0
 AnswersAsked (Day a) files w before failed = EndsAs (AnswersDay a files w before failed)
+AnswersAsked (Wall a) files w before failed = EndsAs (AnswersWall a files w before failed)
 AnswersAsked (Replay a) files w before failed = EndsAs (AnswersReplay a files w before failed)
 AnswersAsked (Check a) files w before failed =
     EndsAs (IsIn a.format (IsChecked a files w before failed))
@@ -70,6 +72,8 @@ AnswersAsked aid files w before failed = EndsAs (IsRejected before failed)
 -- the reply to what the files of a call hold
 abbrev pub IsReply : Task → Answer → Type 0
 IsReply (task.Day q tables) = EndsAs (λ ending. ending ≡ shown q tables)
+IsReply (task.Wall q c tables) = EndsAs (λ ending. ending ≡ wall_shown q c tables)
+IsReply (task.BadRule fault) = EndsAs IsRuleRefused
 IsReply (task.Replay words found) = EndsAs (IsReplyTo (asked_replay words) found)
 IsReply (task.Check words claimed) = EndsAs (IsIn words.format (IsReplyOn claimed))
 IsReply (task.Run words claimed) = IsRuled (asked_run words) claimed

@@ -1,7 +1,7 @@
 -- Which files a call reads, in which order, and the warnings before its answer.
-use Rattle.std.specs.Prelude.{◌≡◌, ◌⊎◌, ℕ, List, [], Option}
+use Rattle.std.specs.Prelude.{◌≡◌, ◌⊎◌, ℕ, List, [], Option, None}
 use Rattle.cs_args.specs.Asked.{Text}
-use Rattle.cs_args.specs.Asked.{Apply, Asking, Check, Day, Help, Judge, Make, Replay, Run}
+use Rattle.cs_args.specs.Asked.{Apply, Asking, Check, Day, Help, Judge, Make, Replay, Run, Wall}
 use Rattle.cs_args.specs.CommandLine.{Asks}
 use Rattle.cs_io.specs.Files.{AreReadInTurn, Failed, Reads}
 use Rattle.cs_files.specs.Asked.{Warns}
@@ -10,6 +10,7 @@ use Rattle.cs_files.specs.Turn.{check_paths, judge_paths, replay_paths, table_pa
 -- the files of what is asked are read one after the other, each in its turn, and nothing else is
 abbrev pub ReadsAsked : Asking → Reads → Reads → Type 0
 ReadsAsked (Day a) = AreReadInTurn (table_paths a.table a.anacrontab)
+ReadsAsked (Wall a) = AreReadInTurn (table_paths a.day.table None)
 ReadsAsked (Replay a) = AreReadInTurn (replay_paths a)
 ReadsAsked (Check a) = AreReadInTurn (check_paths a)
 ReadsAsked (Run a) = AreReadInTurn (check_paths a.check)
@@ -26,6 +27,7 @@ ReadsInTurn words old new =
 -- the warnings of the tables of what is asked
 abbrev pub WarnsOf : Asking → (List ℕ → Option (List ℕ)) → Failed → Reads → Reads → List ℕ → Type 0
 WarnsOf (Day a) files = Warns files a.table a.anacrontab
+WarnsOf (Wall a) files = Warns files a.day.table None
 WarnsOf (Replay a) files = Warns files a.table a.anacrontab
 WarnsOf (Check a) files = Warns files a.table a.anacrontab
 WarnsOf (Run a) files = Warns files a.check.table a.check.anacrontab

@@ -1,7 +1,7 @@
 //! The answer to the words of a call.
 ghost use Rattle.std.specs.Prelude.{◌≡◌, ◌≢◌, [], IfErr, IfOk, map};
 ghost use Rattle.cs_io.specs.Files.{IsFresh};
-ghost use Rattle.cs_args.specs.Asked.{asking};
+ghost use Rattle.cs_args.specs.Asked.{Wall, asked_wall, asking};
 ghost use Rattle.cs_ruling.specs.Answer.{IfEnds};
 ghost use Rattle.cs_files.specs.Asked.{Tells};
 ghost use Rattle.cs_files.specs.Ending.{sink};
@@ -11,15 +11,16 @@ ghost use Rattle.cronsafe.specs.Turn.{ReadsAsked, ReadsInTurn, WarnsOf, WarnsOn}
 
 use cs_args::{
     CheckWords, Format, JudgeWords, Question, ReloadWords, ReplayWords, Request, RunWords,
-    StatusWords, StopWords, UsageFault, parse_words,
+    StatusWords, StopWords, UsageFault, WallWords, parse_words,
 };
 use cs_civil::Bytes;
 use cs_cli::{Wanted, answer_judge, check_in_format, judge_in_format, wanted_of};
 use cs_files::{Fault, Planned, Response, Status, Tables, find_plan, find_tables};
 use cs_findings::{TableStatus, findings_of_fault, in_format, written};
 use cs_io::{Inputs, Output};
+use cs_rule::{Clock, RuleFault, read_rule};
 use cs_ruling::{Answer, Claimed, answer_run, find_claimed};
-use cs_show::{Replayable, answer_day, answer_replay, find_script};
+use cs_show::{Replayable, answer_day, answer_replay, answer_wall, find_script, refuse_rule};
 use std::alloc::{AllocError, Global};
 use std::convert::AsStr;
 use std::thread::Threads;
@@ -28,6 +29,10 @@ use std::thread::Threads;
 #[derive(Drop)]
 pub(crate) enum Task<'a> {
     Day(Question, Tables),
+    /// With the clock of a zone.
+    Wall(Question, Clock, Tables),
+    /// The rule of a zone that can't be used, for this reason.
+    BadRule(RuleFault),
     Replay(ReplayWords<'a>, Replayable),
     Check(CheckWords<'a>, Claimed),
     Run(RunWords<'a>, Claimed),
@@ -43,6 +48,35 @@ pub(crate) enum Task<'a> {
     Status(StatusWords<'a>),
     /// A subcommand of the aids.
     Aid,
+}
+
+/// Reads the crontab of `day` by the clock of a zone, once the words and the rule hold no fault, and
+/// writes its warnings to standard error.
+fn find_wall<'a, I: Inputs, E: Output>(
+    alloc: Global,
+    words: WallWords<'a>,
+    inputs: &mut I,
+    err: &mut E,
+) -> Result<Task<'a>, Fault<'a>>
+    ensures value { IsFresh (I.whole inputs.old) (I.left inputs.old)
+        → Tells (λ w. WarnsOf (Wall (asked_wall words.entry)) (I.whole inputs.old) (I.failed inputs.old)
+        (I.reads inputs.old) (I.reads inputs.new) w
+        × CameTo (Leads (Wall (asked_wall words.entry)) (I.whole inputs.old) w
+        (I.failed inputs.old) (I.failed inputs.new)) result)
+        (sink (E.contents err.old) (E.failed err.old))
+        (sink (E.contents err.new) (E.failed err.new)) }
+    ensures status { IfErr result (IsHonestOf (I.failed inputs.new) (I.reads inputs.new)) }
+    ensures turn { ReadsAsked (Wall (asked_wall words.entry))
+        (I.reads inputs.old) (I.reads inputs.new) }
+{
+    let question = Question::new(&words.day)?;
+    match read_rule(words.rule.as_bytes()) {
+        Ok(clock) => {
+            let tables = find_tables(alloc, inputs, err, words.day.table, None)?;
+            Ok(Task::Wall(question, clock, tables))
+        }
+        Err(fault) => Ok(Task::BadRule(fault)),
+    }
 }
 
 /// Reads the files of a request, each in its turn, and writes the tables' warnings to standard
@@ -69,6 +103,7 @@ fn find_task<'a, I: Inputs, E: Output>(
             let tables = find_tables(alloc, inputs, err, words.table, words.anacrontab)?;
             Ok(Task::Day(question, tables))
         }
+        Request::Wall(words) => find_wall(alloc, words, inputs, err),
         Request::Replay(words) => {
             let found = find_script(alloc, inputs, err, &words)?;
             Ok(Task::Replay(words, found))
@@ -138,6 +173,10 @@ fn answer<'a, R: Threads + Sync>(
 {
     match task {
         Task::Day(question, tables) => Ok(Answer::Ends(answer_day(alloc, question, &tables)?)),
+        Task::Wall(question, clock, tables) => {
+            Ok(Answer::Ends(answer_wall(alloc, question, &clock, &tables)?))
+        }
+        Task::BadRule(fault) => Ok(Answer::Ends(refuse_rule(alloc, fault)?)),
         Task::Replay(words, found) => Ok(Answer::Ends(answer_replay(alloc, &words, found)?)),
         Task::Check(words, claimed) => {
             Ok(Answer::Ends(check_in_format(rt, alloc, &words, claimed)?))

@@ -173,6 +173,7 @@ fn find_task<'a, R: Threads + Sync + Files, I: Folders, E: Output>(
             Ok(Task::Diff(words, old, new))
         }
         Request::Day(_words) => Ok(Task::Other),
+        Request::Wall(_words) => Ok(Task::Other),
         Request::Replay(_words) => Ok(Task::Other),
         Request::Check(_words) => Ok(Task::Other),
         Request::Run(_words) => Ok(Task::Other),

@@ -23,6 +23,7 @@ use Rattle.cs_args.specs.declared.request.RunWords.{RunWords}
 use Rattle.cs_args.specs.declared.request.StatusWords.{StatusWords}
 use Rattle.cs_args.specs.declared.request.ReloadWords.{ReloadWords}
 use Rattle.cs_args.specs.declared.request.StopWords.{StopWords}
+use Rattle.cs_args.specs.declared.request.WallWords.{WallWords}
 
 abbrev pub Text : Type 0
 Text = List ℕ
@@ -34,6 +35,10 @@ pub record Asked : Type 0 where
   pub anacrontab : Option Text
   pub from : ℕ
   pub to : ℕ
+
+pub record AskedWall : Type 0 where
+  pub day : Asked
+  pub rule : Text
 
 pub record AskedReplay : Type 0 where
   pub table : Text
@@ -159,6 +164,7 @@ pub record AskedChart : Type 0 where
 -- what words may ask: a subcommand, or, by the subcommand `help`, how the program is called
 pub data Asking : Type 0 where
   Day : Asked → Asking
+  Wall : AskedWall → Asking
   Replay : AskedReplay → Asking
   Check : AskedCheck → Asking
   Run : AskedRun → Asking
@@ -191,6 +197,9 @@ asked d = record {
   from = d.from;
   to = d.to;
 }
+
+abbrev pub asked_wall : WallWords → AskedWall
+asked_wall w = record { day = asked w.day; rule = w.rule.now }
 
 abbrev pub asked_replay : ReplayWords → AskedReplay
 asked_replay r = record {
@@ -334,6 +343,7 @@ asked_chart c = record {
 
 abbrev pub asking : Request → Asking
 asking (request.Day d) = Day (asked d)
+asking (request.Wall w) = Wall (asked_wall w)
 asking (request.Replay r) = Replay (asked_replay r)
 asking (request.Check c) = Check (asked_check c)
 asking (request.Run r) = Run (asked_run r)

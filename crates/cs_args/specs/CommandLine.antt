@@ -1,6 +1,6 @@
 -- The command line, as `clap` reads it, and what its words ask.
 use Prim.Native.String.{String}
-use Rattle.std.specs.Prelude.{◌≡◌, ◌≢◌, ◌⊎◌, ◌^◌, ◌==◌, ℕ, Bool, false, List, [], ◌∷◌, count_by, find, fold, is_none, is_some, not, Option, Some, None, sum_by, true, codes, option_and_then, option_map, unwrap_or, length, min, if◌then◌else◌, nat_lt, ◌&&◌, ◌||◌, Result, Ok, Err, ⊤}
+use Rattle.std.specs.Prelude.{◌≡◌, ◌≢◌, ◌⊎◌, ◌^◌, ◌==◌, ℕ, Bool, false, List, [], ◌∷◌, count_by, find, fold, is_none, is_some, not, Option, Some, None, sum_by, true, codes, option_and_then, unwrap_or, length, min, if◌then◌else◌, nat_lt, ◌&&◌, ◌||◌, Result, Ok, Err, ⊤}
 use Rattle.std.specs.Str.Parse.{digits_value}
 use Rattle.std.specs.Char.{is_ascii_digit}
 use Rattle.std.specs.List.{list_all, list_any}
@@ -14,8 +14,8 @@ use Rattle.clap.specs.declared.error.Error.{Error}
 use Rattle.clap.specs.declared.error.kind.ErrorKind.{ErrorKind}
 use Rattle.clap.specs.declared.error.kind.ErrorKind.TheVariants.{DisplayHelp, DisplayVersion}
 use Rattle.clap.specs.declared.error.kind.ErrorKind.TheVariants as kind
-use Rattle.cs_args.specs.Asked.{Asked, AskedAdvise, AskedAll, AskedApply, AskedChart, AskedCheck, AskedDiff, AskedDraft, AskedGather, AskedJudge, AskedLearn, AskedLint, AskedMake, AskedNext, AskedReload, AskedReplay, AskedRun, AskedStatus, AskedStop, Text, asking}
-use Rattle.cs_args.specs.Asked.{Advise, Apply, Asking, Chart, Check, Day, Diff, Draft, Explain, Gather, Help as HelpAsking, Judge, JudgeAll, Learn, Lint, LintAll, Make, Next, Reload, Replay, Room, Run, Status, Stop}
+use Rattle.cs_args.specs.Asked.{Asked, AskedAll, AskedCheck, AskedJudge, Text, asking}
+use Rattle.cs_args.specs.Asked.{Advise, Apply, Asking, Chart, Check, Day, Diff, Draft, Explain, Gather, Help as HelpAsking, Judge, JudgeAll, Learn, Lint, LintAll, Make, Next, Reload, Replay, Room, Run, Status, Stop, Wall}
 use Rattle.cs_args.specs.declared.request.Format.{Format}
 use Rattle.cs_args.specs.declared.request.Format.TheVariants as format
 use Rattle.cs_args.specs.declared.request.Request.{Request}
@@ -104,7 +104,7 @@ usage_of subcommand.Lint = (
 usage_of subcommand.Day = (
   codes "day",
   word "TABLE" ∷ word "DATE" ∷ optional_word "MAX" ∷ value "anacrontab" ∷ value "from" ∷
-      value "to" ∷ [],
+      value "to" ∷ value "zone" ∷ [],
 )
 usage_of subcommand.Chart = (
   codes "chart",
@@ -159,7 +159,7 @@ abbrev pub numbers_of : Subcommand → List Text
 numbers_of subcommand.Next = codes "count" ∷ []
 numbers_of _ = numbers
 
--- the arguments at which - is standard input, in one of them at most
+-- the arguments at which - is standard input, in one of them at most; no rule of a zone is -
 abbrev pub inputs : List Text
 inputs =
     codes "TABLE" ∷ codes "DECLS" ∷ codes "CERT" ∷ codes "SCRIPT" ∷ codes "LOG" ∷
@@ -260,14 +260,17 @@ has_unfit_format s rows = option_map_or (is_unfit s) (first_of (codes "format") 
 abbrev pub second_of : Text → List Row → Option Text
 second_of id rows = slice_get (values_in id rows) 1
 
--- `chart` has neither MAX nor declarations, or `gather` no path
-abbrev pub lacks : Subcommand → List Row → Bool
-lacks subcommand.Chart rows =
+-- `chart` has neither MAX nor declarations, `gather` no path, or `day` a rule of a time zone and an
+-- anacrontab
+abbrev pub is_unsuited : Subcommand → List Row → Bool
+is_unsuited subcommand.Chart rows =
     not (is_given (codes "MAX") rows) && not (is_given (codes "declarations") rows)
-lacks subcommand.Gather rows =
+is_unsuited subcommand.Gather rows =
     not (is_given (codes "root") rows)
     && (not (is_given (codes "system") rows) && not (is_given (codes "user") rows))
-lacks _ rows = false
+is_unsuited subcommand.Day rows =
+    is_given (codes "zone") rows && is_given (codes "anacrontab") rows
+is_unsuited _ rows = false
 
 -- `--keep` or `--mail` without `--output`, `--json` with `--metrics`, standard input twice,
 -- `--script` without `--log`, or a number out of its range: the days of `chart`, the minutes and
@@ -290,7 +293,7 @@ is_misfit rows =
 -- the words of a subcommand are wrong, though they have its form
 abbrev pub is_wrong : Subcommand → List Row → Bool
 is_wrong s rows =
-    lacks s rows
+    is_unsuited s rows
     || (has_no_number (numbers_of s) rows
     || (has_unknown_name rows || (has_unfit_format s rows || is_misfit rows)))
 
@@ -349,7 +352,9 @@ new_in rows = record {
 }
 
 abbrev pub asked_in : Subcommand → List Row → Asking
-asked_in subcommand.Day rows = Day (day_in 1 rows)
+asked_in subcommand.Day rows =
+    option_map_or (λ rule. Wall (record { day = day_in 1 rows; rule = rule }))
+    (first_of (codes "zone") rows) (Day (day_in 1 rows))
 asked_in subcommand.Chart rows = Chart (record {
   day = day_in 1440 rows;
   days = min 7 (number_or 1 (codes "days") rows);

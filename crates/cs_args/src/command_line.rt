@@ -7,12 +7,12 @@ ghost use Rattle.cs_args.specs.Asked.{Advise, Chart, Diff, Draft, Gather, Learn,
 ghost use Rattle.cs_args.specs.Asked.{Replay, Run, asked, asked_advise, asked_all, asked_chart};
 ghost use Rattle.cs_args.specs.Asked.{asked_check, asked_diff, asked_draft, asked_gather};
 ghost use Rattle.cs_args.specs.Asked.{asked_judge, asked_learn, asked_lint, asked_next};
-ghost use Rattle.cs_args.specs.Asked.{asked_replay, asked_run};
+ghost use Rattle.cs_args.specs.Asked.{asked_replay, asked_run, asking};
 ghost use Rattle.cs_args.specs.CommandLine.{Answers, FaultOf, Parses, all_in, asked_by, asked_in};
 ghost use Rattle.cs_args.specs.CommandLine.{check_in, day_in, format_in, format_named, has_flag};
 ghost use Rattle.cs_args.specs.CommandLine.{has_no_number, has_unfit_format, has_unknown_name};
 ghost use Rattle.cs_args.specs.CommandLine.{is_dash, is_given, is_misfit, is_twice_standard};
-ghost use Rattle.cs_args.specs.CommandLine.{is_wrong, judge_in, lacks, number_of, number_or};
+ghost use Rattle.cs_args.specs.CommandLine.{is_unsuited, is_wrong, judge_in, number_of, number_or};
 ghost use Rattle.cs_args.specs.CommandLine.{numbers_of, optional_number, second_of, value_or};
 ghost use Rattle.cs_args.specs.CommandLine.{values_in};
 ghost use Rattle.cs_args.specs.Table.{words_given};
@@ -22,7 +22,7 @@ use crate::commands::command;
 use crate::request::{
     AdviseWords, AllWords, ApplyWords, ChartWords, CheckWords, DayWords, DiffWords, DraftWords,
     Format, GatherWords, JudgeWords, LearnWords, LintWords, MakeWords, NextWords, ReloadWords,
-    ReplayWords, Request, RunWords, StatusWords, StopWords, UsageFault,
+    ReplayWords, Request, RunWords, StatusWords, StopWords, UsageFault, WallWords,
 };
 use crate::table::Subcommand;
 use clap::error::ErrorKind;
@@ -246,19 +246,23 @@ impl<'a, 'm> Given<'a, 'm> {
         }
     }
 
-    /// What the subcommand requires and isn't given.
-    fn lacking(self) -> Option<&'static str>
-        ensures { is_some result ≡ lacks self.entry.subcommand (words_given self.entry) }
+    /// Why the subcommand can't be called with these arguments.
+    fn unsuited(self) -> Option<&'static str>
+        ensures { is_some result ≡ is_unsuited self.entry.subcommand (words_given self.entry) }
     {
         let (max, declarations) = (self.is_given("MAX"), self.is_given("declarations"));
         let root = self.is_given("root");
         let (system, user) = (self.is_given("system"), self.is_given("user"));
+        let (zone, anacrontab) = (self.is_given("zone"), self.is_given("anacrontab"));
         match self.subcommand {
             Subcommand::Chart if !max && !declarations => {
                 Some("MAX is required without --declarations")
             }
             Subcommand::Gather if !root && !system && !user => {
                 Some("one of --root, --system and --user is required")
+            }
+            Subcommand::Day if zone && anacrontab => {
+                Some("--zone and --anacrontab are both given")
             }
             _ => None,
         }
@@ -342,7 +346,7 @@ impl<'a, 'm> Given<'a, 'm> {
         ensures { IfOk result (λ message. is_some message
             ≡ is_wrong self.entry.subcommand (words_given self.entry)) }
     {
-        if let Some(message) = self.lacking() {
+        if let Some(message) = self.unsuited() {
             return Ok(Some(String::from_str(self.alloc, message)?));
         }
         if let Some(id) = self.no_number(self.numbers()) {
@@ -372,6 +376,17 @@ impl<'a, 'm> Given<'a, 'm> {
             anacrontab: self.value("anacrontab"),
             from: self.number("from", 0),
             to: self.number("to", 1440),
+        }
+    }
+
+    /// For `day`: by a clock with summer time where a rule is given.
+    fn day_or_wall(self) -> Request<'a>
+        ensures { asking result ≡ asked_in subcommand.Day (words_given self.entry) }
+    {
+        let day = self.day(1);
+        match self.value("zone") {
+            Some(rule) => Request::Wall(WallWords { day, rule }),
+            None => Request::Day(day),
         }
     }
 
@@ -623,7 +638,7 @@ impl<'a, 'm> Given<'a, 'm> {
             Subcommand::Draft => Ok(Request::Draft(self.draft())),
             Subcommand::Learn => Ok(Request::Learn(self.learn()?)),
             Subcommand::Lint => Ok(Request::Lint(self.lint()?)),
-            Subcommand::Day => Ok(Request::Day(self.day(1))),
+            Subcommand::Day => Ok(self.day_or_wall()),
             Subcommand::Chart => Ok(Request::Chart(self.chart())),
             Subcommand::Replay => Ok(Request::Replay(self.replay())),
             Subcommand::Explain => Ok(Request::Explain(self.value("NAME"))),

@@ -14,6 +14,6 @@ pub use question::{Question, WordFault};
 pub use request::{
     AdviseWords, AllWords, ChartWords, CheckWords, DayWords, DiffWords, DraftWords, Format,
     GatherWords, JudgeWords, LearnWords, LintWords, MakeWords, NextWords, ReloadWords, ReplayWords,
-    Request, RunWords, StatusWords, StopWords, UsageFault,
+    Request, RunWords, StatusWords, StopWords, UsageFault, WallWords,
 };
 pub use version::version_text;

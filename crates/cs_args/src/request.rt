@@ -20,6 +20,15 @@ pub struct DayWords<'a> {
     pub to: u64,
 }
 
+/// What `day --zone` is asked.
+#[derive(Clone, Copy)]
+pub struct WallWords<'a> {
+    /// What `day` is asked, of a date of the zone; no anacrontab is given.
+    pub day: DayWords<'a>,
+    /// The text of a rule of a time zone, as POSIX has it in `TZ`.
+    pub rule: &'a str,
+}
+
 /// What `replay` is asked.
 #[derive(Clone, Copy)]
 pub struct ReplayWords<'a> {
@@ -302,6 +311,8 @@ pub struct ChartWords<'a> {
 pub enum Request<'a> {
     /// A day of the tables.
     Day(DayWords<'a>),
+    /// A day of the tables by a clock with summer time.
+    Wall(WallWords<'a>),
     /// The replay of a script.
     Replay(ReplayWords<'a>),
     /// The check of a certificate.

@@ -167,13 +167,14 @@ static LINT: [Argument; 8] = [
     FORMAT,
 ];
 
-static DAY: [Argument; 6] = [
+static DAY: [Argument; 7] = [
     TABLE,
     DATE,
     Argument("MAX", OptionalWord, texts::MAX_HELP),
     ANACRONTAB,
     FROM,
     TO,
+    Argument("zone", Value("RULE"), texts::RULE_HELP),
 ];
 
 static CHART: [Argument; 8] = [

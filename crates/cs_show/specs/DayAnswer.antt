@@ -1,5 +1,5 @@
 -- The answer to `day`.
-use Rattle.std.specs.Prelude.{◌≡◌, ◌⊎◌, ℕ, List, [], ◌++◌, Option, codes, decimal}
+use Rattle.std.specs.Prelude.{◌≡◌, ◌⊎◌, ℕ, List, [], ◌++◌, Option}
 use Rattle.std.specs.Prelude.{flat_map}
 use Rattle.cs_crontab.specs.declared.table.When.{When}
 use Rattle.cs_crontab.specs.declared.table.When.TheVariants.{At, Reboot}
@@ -10,7 +10,7 @@ use Rattle.cs_args.specs.Question.{IsBadWord, IsQuestion, Question}
 use Rattle.cs_args.specs.Words.{word_fault}
 use Rattle.cs_args.specs.declared.question.WordFault.{WordFault}
 use Rattle.cs_io.specs.Files.{Failed}
-use Rattle.cs_show.specs.DayText.{catch_up_text, date_line, job_text}
+use Rattle.cs_show.specs.DayText.{catch_up_text, date_line, job_text, reboot_text}
 use Rattle.cs_files.specs.Asked.{Answers, FindsTables}
 use Rattle.cs_files.specs.Response.{Ending, done}
 use Rattle.cs_files.specs.Trouble.{InWords, ends}
@@ -18,7 +18,7 @@ use Rattle.cs_files.specs.declared.asked.Tables.{Tables}
 
 abbrev pub when_text : Question → ℕ → When → List ℕ
 when_text q number (At schedule) = job_text q.day q.max number schedule
-when_text q number Reboot = codes "line " ++ (decimal number ++ codes ": at reboot\n")
+when_text q number Reboot = reboot_text number
 
 abbrev pub line_text : Question → CommandLine → List ℕ
 line_text q line = when_text q line.number line.when

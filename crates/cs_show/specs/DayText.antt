@@ -34,11 +34,14 @@ window_text w = codes "  "
     ++ (start_text w
     ++ (codes " to " ++ (end_text (w.from + w.reach - 1440 * w.day_back) ++ 10 ∷ [])))
 
--- `line 1: due 2`, where the job is due twice
-unfoldable pub due_text : ℕ → Times → Kind → List ℕ
-due_text number times day = codes "line "
-    ++ (decimal number
-    ++ (codes ": due " ++ (decimal (length (minutes_where (is_due times day))) ++ 10 ∷ [])))
+-- `line 1: due 2`, where the line is due so often
+unfoldable pub due_text : ℕ → ℕ → List ℕ
+due_text number count = codes "line "
+    ++ (decimal number ++ (codes ": due " ++ (decimal count ++ 10 ∷ [])))
+
+-- `line 1: at reboot`
+unfoldable pub reboot_text : ℕ → List ℕ
+reboot_text number = codes "line " ++ (decimal number ++ codes ": at reboot\n")
 
 -- a job whose runs last so long
 abbrev pub job : Times → ℕ → Job Kind
@@ -47,7 +50,7 @@ job times max = record { begins = is_due times; lasts = max }
 -- a command line: how often it is due, and the windows of its runs, those begun on earlier days
 -- first
 unfoldable pub job_text : ℕ → ℕ → ℕ → Times → List ℕ
-job_text n max number times = due_text number times (kind n)
+job_text n max number times = due_text number (length (minutes_where (is_due times (kind n))))
     ++ flat_map window_text (windows_on (job times max ∷ []) (four_days n))
 
 -- a blank, the weekday's name, and the end of the line

@@ -2,7 +2,7 @@
 ghost use Rattle.std.specs.Prelude.{◌≡◌, ◌++◌, IfOk, OnOk, flat_map};
 ghost use Rattle.cs_show.specs.DayAnswer.{anacron_text, line_text, shown, tables_text};
 
-use crate::day_text::{add_catch_up, add_date, add_job};
+use crate::day_text::{add_catch_up, add_date, add_job, add_reboot};
 use cs_anacrontab::Job;
 use cs_args::Question;
 use cs_civil::Bytes;
@@ -24,10 +24,7 @@ fn add_lines(
         let number = line.number();
         match line.when() {
             When::At(schedule) => add_job(alloc, text, number, schedule, day, max)?,
-            When::Reboot => {
-                let words = format!(in alloc; "line {number}: at reboot\n")?;
-                text.extend_from_slice(words.as_bytes())?;
-            }
+            When::Reboot => add_reboot(alloc, text, number)?,
         }
     }
     Ok(())

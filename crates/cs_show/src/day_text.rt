@@ -1,14 +1,15 @@
 //! The answer of `day`.
 ghost use Rattle.std.specs.Prelude.{◌≡◌, ◌++◌, ◌-◌, ◌*◌, ◌≤◌, OnOk, [], ◌∷◌, flat_map};
-ghost use Rattle.cs_show.specs.DayText.{catch_up_text, clock, date_line, days_apart, due_text, end_text, identifier_line, job_text, start_text, weekday_part, window_text};
+ghost use Rattle.cs_show.specs.DayText.{catch_up_text, clock, date_line, days_apart, due_text, end_text, identifier_line, job_text, reboot_text, start_text, weekday_part, window_text};
 
 use cs_civil::{Day, Hours, day_text, four_days, kind_of, weekday_name};
 use cs_schedule::Schedule;
 use cs_windows::{Occupied, Window, windows_on};
 use std::alloc::{AllocError, Global};
 
+/// Adds `HH:MM` of a minute of a day.
 #[tactic(auto, unfolding(crate::specs::DayText::clock))]
-fn add_clock(text: &mut Vec<u8>, minute: u16) -> Result<(), AllocError>
+pub fn add_clock(text: &mut Vec<u8>, minute: u16) -> Result<(), AllocError>
     ensures { OnOk result (text.new.items ≡ text.old.items ++ clock minute) }
 {
     let hour = minute / 60;
@@ -24,11 +25,12 @@ fn add_clock(text: &mut Vec<u8>, minute: u16) -> Result<(), AllocError>
     Ok(())
 }
 
+/// Adds that a day is so many days before or after another one; nothing for none.
 #[tactic(auto, unfolding(crate::specs::DayText::days_apart))]
-fn add_days_apart(
+pub fn add_days_apart(
     alloc: Global,
     text: &mut Vec<u8>,
-    days: u32,
+    days: u64,
     side: &str,
 ) -> Result<(), AllocError>
     ensures { OnOk result (text.new.items ≡ text.old.items ++ days_apart days side.now) }
@@ -50,7 +52,7 @@ fn add_end(alloc: Global, text: &mut Vec<u8>, end: u32) -> Result<(), AllocError
         return add_clock(text, end as u16);
     }
     add_clock(text, (end % 1_440) as u16)?;
-    add_days_apart(alloc, text, end / 1_440, "after")
+    add_days_apart(alloc, text, u64::from(end / 1_440), "after")
 }
 
 #[tactic(auto, using(crate::proofs::TextLemmas::two_parts), unfolding(crate::specs::DayText::start_text))]
@@ -58,7 +60,7 @@ fn add_start(alloc: Global, text: &mut Vec<u8>, window: &Window) -> Result<(), A
     ensures { OnOk result (text.new.items ≡ text.old.items ++ start_text window.now) }
 {
     add_clock(text, window.from)?;
-    add_days_apart(alloc, text, u32::from(window.day_back), "before")
+    add_days_apart(alloc, text, u64::from(window.day_back), "before")
 }
 
 #[tactic(auto, unfolding(crate::specs::DayText::window_text))]
@@ -87,8 +89,16 @@ fn add_windows(alloc: Global, text: &mut Vec<u8>, windows: &[Window]) -> Result<
     Ok(())
 }
 
+/// Adds how often a line is due.
+#[tactic(auto, unfolding(crate::specs::DayText::due_text))]
+pub fn add_due(alloc: Global, text: &mut Vec<u8>, number: u32, due: usize) -> Result<(), AllocError>
+    ensures { OnOk result (text.new.items ≡ text.old.items ++ due_text number due) }
+{
+    text.extend_from_slice(format!(in alloc; "line {number}: due {due}\n")?.as_bytes())
+}
+
 /// Adds the lines of a command: how often it is due, and the windows of its runs.
-#[tactic(auto, using(crate::proofs::TextLemmas::two_parts), unfolding(crate::specs::DayText::job_text, crate::specs::DayText::due_text))]
+#[tactic(auto, using(crate::proofs::TextLemmas::two_parts), unfolding(crate::specs::DayText::job_text))]
 pub fn add_job(
     alloc: Global,
     text: &mut Vec<u8>,
@@ -102,13 +112,21 @@ pub fn add_job(
         (text.new.items ≡ text.old.items ++ job_text day max number schedule.now) }
 {
     let due = schedule.minutes_of(kind_of(day)).len();
-    text.extend_from_slice(format!(in alloc; "line {number}: due {due}\n")?.as_bytes())?;
+    add_due(alloc, text, number, due)?;
     let occupied = [Occupied::Cron {
         schedule,
         reach: max,
     }];
     let windows = windows_on(alloc, occupied.as_slice(), four_days(day).as_slice())?;
     add_windows(alloc, text, windows.as_slice())
+}
+
+/// Adds that a line is due when the machine starts.
+#[tactic(auto, unfolding(crate::specs::DayText::reboot_text))]
+pub fn add_reboot(alloc: Global, text: &mut Vec<u8>, number: u32) -> Result<(), AllocError>
+    ensures { OnOk result (text.new.items ≡ text.old.items ++ reboot_text number) }
+{
+    text.extend_from_slice(format!(in alloc; "line {number}: at reboot\n")?.as_bytes())
 }
 
 fn add_identifier(text: &mut Vec<u8>, identifier: &[u8]) -> Result<(), AllocError>

@@ -6,6 +6,9 @@ mod day_text;
 mod replay;
 mod replay_text;
 mod verdict;
+mod wall;
+mod wall_text;
 
 pub use day::answer_day;
 pub use replay::{Replayable, answer_replay, find_script};
+pub use wall::{answer_wall, refuse_rule};

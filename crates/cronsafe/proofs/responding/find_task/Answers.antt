@@ -156,3 +156,9 @@ returns-in-JudgeAll-clause-value g c = λ fresh. rw (c.in-JudgeAll.is) ([], trie
 
 pub returns-in-LintAll-clause-value : goal.returns-in-LintAll-clause-value
 returns-in-LintAll-clause-value g c = λ fresh. rw (c.in-LintAll.is) ([], tries_nothing _, (refl, ends_as (λ e is. (refl, is.0, is.1))))
+
+pub returns-in-Wall-clause-value : goal.returns-in-Wall-clause-value
+returns-in-Wall-clause-value g c = λ fresh. rw (c.in-Wall.is) (c.find_wall.ensures.value fresh)
+
+pub returns-in-Wall-clause-turn : goal.returns-in-Wall-clause-turn
+returns-in-Wall-clause-turn g c = rw (c.in-Wall.is) (c.find_wall.ensures.turn)

@@ -109,6 +109,9 @@ returns-in-Explain-clause-value g c = λ fresh. rw (c.in-Explain.is) ([], tries_
 pub returns-in-Day-clause-value : goal.returns-in-Day-clause-value
 returns-in-Day-clause-value g c = λ fresh. rw (c.in-Day.is) ([], tries_nothing _, (refl, λ e is. (e, (refl, is.0, is.1), refl)))
 
+pub returns-in-Wall-clause-value : goal.returns-in-Wall-clause-value
+returns-in-Wall-clause-value g c = λ fresh. rw (c.in-Wall.is) ([], tries_nothing _, (refl, λ e is. (e, (refl, is.0, is.1), refl)))
+
 pub returns-in-Replay-clause-value : goal.returns-in-Replay-clause-value
 returns-in-Replay-clause-value g c = λ fresh. rw (c.in-Replay.is) ([], tries_nothing _, (refl, λ e is. (e, (refl, is.0, is.1), refl)))
 

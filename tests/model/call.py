@@ -15,11 +15,12 @@ from model.calendar import DAY
 from model.day import day_answer
 from model.declarations import GREATEST_MAX, lines_named, plain_plan, read_declared, read_plan
 from model.faults import Fault
+from model.nights import Zone, is_usable, night_answer
 from model.replay import replay_answer
 
 # The words of each subcommand and its options; those in capitals are the paths of inputs.
 CALLS = {
-    b"day": (("TABLE", "date", "max"), ("ANACRONTAB", "from", "to")),
+    b"day": (("TABLE", "date", "max"), ("ANACRONTAB", "from", "to", "zone")),
     b"check": (("TABLE", "DECLS", "CERT"), ("ANACRONTAB",)),
     b"judge": (("TABLE", "DECLS"), ("ANACRONTAB",)),
     b"make": (("TABLE", "DECLS"), ("ANACRONTAB", "compact")),
@@ -264,7 +265,16 @@ class Call:
         if not 0 <= hours[0] < hours[1] <= DAY:
             self.hint = HOURS_HINT
             raise Fault("declarations", "BadHours")
+        if "zone" in found:
+            return self.night(found["zone"].decode(errors="replace"), found, day, longest)
         return 0, day_answer(*self.read_tables(found), day, longest, hours)
+
+    def night(self, rule, found, day, longest):
+        """Answers `day --zone`; what is told of a rule that isn't for it isn't read."""
+        if not is_usable(rule):
+            self.warned = None
+            return 3, b""
+        return 0, night_answer(self.read_tables(found)[0], day, longest, Zone(rule))
 
     def draft(self, found):
         self.look_at_max(found.get("max", 60))

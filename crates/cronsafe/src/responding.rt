@@ -50,8 +50,8 @@ pub(crate) enum Task<'a> {
     Aid,
 }
 
-/// Reads the crontab of `day` by the clock of a zone, once the words and the rule hold no fault, and
-/// writes its warnings to standard error.
+/// Reads the crontab of `day` by the clock of a zone, once the words and the rule hold no fault.
+/// Writes its warnings to standard error.
 fn find_wall<'a, I: Inputs, E: Output>(
     alloc: Global,
     words: WallWords<'a>,
@@ -59,8 +59,8 @@ fn find_wall<'a, I: Inputs, E: Output>(
     err: &mut E,
 ) -> Result<Task<'a>, Fault<'a>>
     ensures value { IsFresh (I.whole inputs.old) (I.left inputs.old)
-        → Tells (λ w. WarnsOf (Wall (asked_wall words.entry)) (I.whole inputs.old) (I.failed inputs.old)
-        (I.reads inputs.old) (I.reads inputs.new) w
+        → Tells (λ w. WarnsOf (Wall (asked_wall words.entry)) (I.whole inputs.old)
+        (I.failed inputs.old) (I.reads inputs.old) (I.reads inputs.new) w
         × CameTo (Leads (Wall (asked_wall words.entry)) (I.whole inputs.old) w
         (I.failed inputs.old) (I.failed inputs.new)) result)
         (sink (E.contents err.old) (E.failed err.old))

@@ -42,6 +42,6 @@ starts_on z s k minute = starts z s k (minute_on k minute)
 abbrev pub is_due : Zone → Times → Kind → ℕ → Bool
 is_due z s k minute = nat_lt 0 (starts_on z s k minute)
 
--- In this minute the wall first shows one or, after a jump over it, a later one.
+-- In this minute the wall first shows it or, after a jump over it, a later one.
 abbrev pub Comes : Zone → Kind → ℕ → ℕ → Type 0
 Comes z k shown t = (shown ≤ wall z k t) × ((u : ℕ) → u < t → wall z k u < shown)

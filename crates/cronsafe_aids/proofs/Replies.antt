@@ -1,4 +1,4 @@
-use Rattle.std.proofs.Common.{◌≡◌, ◌≢◌, ◌⊎◌, ◌∙◌, ◌++◌, ℕ, ℤ, Bool, true, false, List, [], None, Option, Some, Result, Ok, Err, IfSome, ap, append_assoc, inl, inr, option_map, refl, subst}
+use Rattle.std.proofs.Common.{◌≡◌, ◌≢◌, ◌⊎◌, ◌∙◌, ◌++◌, ℕ, ℤ, Bool, true, false, List, [], None, Option, Some, Ok, IfSome, ap, append_assoc, inl, inr, option_map, refl, subst}
 use Rattle.std.specs.Io.KnownBytes.{Appends}
 use Rattle.cs_args.specs.Asked.{Text as Word}
 use Rattle.cs_plan.specs.Plain.{is_possible_max}
@@ -26,9 +26,9 @@ possible : (b : Bool) (a : AskedDraft) (files : List ℕ → Option (List ℕ)) 
 possible true a files w before after x found = refl
 possible false a files w before after x (none, same, is) = absurd (cc)
 
-pub drafted : (a : AskedDraft) (offset : ℤ) (files : List ℕ → Option (List ℕ)) (w : List ℕ) (before after : Failed) (x : Draftable) (r : Ending)
-    → FindsDraftable a files w before after (Ok x) → (is_possible_max a.max ≡ true → PrintsDraft a.max offset x r) → AnswersDraft a offset files w before after r
-drafted a offset files w before after x r found prints = inr (x, found, prints (possible (is_possible_max a.max) a files w before after x found))
+pub drafted : (a : AskedDraft) (offset : ℤ) (zone : Option (List ℕ)) (files : List ℕ → Option (List ℕ)) (w : List ℕ) (before after : Failed) (x : Draftable) (r : Ending)
+    → FindsDraftable a files w before after (Ok x) → (is_possible_max a.max ≡ true → PrintsDraft a.max offset zone x r) → AnswersDraft a offset zone files w before after r
+drafted a offset rule files w before after x r found prints = inr (x, found, prints (possible (is_possible_max a.max) a files w before after x found))
 
 -- an answer is honest if it was when its files were read, or if its status isn't that of a failed
 -- device

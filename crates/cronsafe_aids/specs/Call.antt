@@ -1,5 +1,5 @@
 -- The answer to the words of a call.
-use Rattle.std.specs.Prelude.{◌≡◌, ◌⊎◌, ℕ, ℤ, true, ⊤, List, [], None, Option, Result, Ok, Err, Some}
+use Rattle.std.specs.Prelude.{◌≡◌, ◌⊎◌, ℕ, true, ⊤, List, [], None, Option, Result, Ok, Err, Some}
 use Rattle.cs_args.specs.Asked.{Text}
 use Rattle.cs_args.specs.Asked.{Advise, Asking, Chart, Diff, Draft, Explain, Gather, Help}
 use Rattle.cs_args.specs.Asked.{JudgeAll}
@@ -44,7 +44,7 @@ AnswersText now (Advise a) tree files w before failed = AnswersAdvise a files w 
 AnswersText now (Room a) tree files w before failed = AnswersRoom a files w before failed
 AnswersText now (Gather a) tree files w before failed = AnswersGather a tree files failed
 AnswersText now (Draft a) tree files w before failed =
-    AnswersDraft a now.offset files w before failed
+    AnswersDraft a now.offset now.zone.now files w before failed
 AnswersText now (Learn a) tree files w before failed = AnswersLearn a files w before failed
 AnswersText now (Lint a) tree files w before failed = AnswersLint a files before failed
 AnswersText now (Chart a) tree files w before failed = AnswersChart a files w before failed
@@ -92,26 +92,27 @@ abbrev pub IfReady : (Ending → Type 0) → Task → Type 0
 IfReady P (task.Ready ending) = P ending
 IfReady P _ = ⊤
 
--- a reply to what the files of a call hold, with clocks `offset` minutes ahead of UTC
-abbrev pub IsReply : ℤ → Task → Ending → Type 0
-IsReply offset (task.Advise words question planned) =
+-- a reply to what the files of a call hold, at this time
+abbrev pub IsReply : Now → Task → Ending → Type 0
+IsReply now (task.Advise words question planned) =
     IsIn words.format (IsAdvisedOf question planned)
-IsReply offset (task.Draft words found) = λ ending.
-    is_possible_max words.max ≡ true → PrintsDraft words.max offset found ending
-IsReply offset (task.Learn factor found) = PrintsLearned factor.now found
-IsReply offset (task.Chart words q found) = IsDrawn q words.days found
-IsReply offset (task.Explain name) = IsExplained
-IsReply offset (task.Next words found) = λ ending. ⊤
-IsReply offset (task.Diff words old new) = λ ending.
+IsReply now (task.Draft words found) = λ ending.
+    is_possible_max words.max ≡ true
+    → PrintsDraft words.max now.offset now.zone.now found ending
+IsReply now (task.Learn factor found) = PrintsLearned factor.now found
+IsReply now (task.Chart words q found) = IsDrawn q words.days found
+IsReply now (task.Explain name) = IsExplained
+IsReply now (task.Next words found) = λ ending. ⊤
+IsReply now (task.Diff words old new) = λ ending.
     (ending.status ≡ 3) ⊎ IsDiff old.plan new.plan ending
-IsReply offset (task.Ready ready) = λ ending. ending ≡ ready
-IsReply offset task.Other = λ ending. (ending.status ≡ 4) × (ending.out ≡ [])
+IsReply now (task.Ready ready) = λ ending. ending ≡ ready
+IsReply now task.Other = λ ending. (ending.status ≡ 4) × (ending.out ≡ [])
 
 -- each reply to what the files hold answers the call, and so does the report of a fault as text
 abbrev pub Leads : Now → Asking → Tree → (List ℕ → Option (List ℕ)) → List ℕ → Failed → Failed
     → Result Task Trouble → Type 0
 Leads now a tree files w before failed (Ok task) = (ending : Ending)
-    → IsReply now.offset task ending → AnswersAsked now a tree files w before failed ending
+    → IsReply now task ending → AnswersAsked now a tree files w before failed ending
 Leads now a tree files w before failed (Err t) =
     AnswersText now a tree files w before failed (ends [] t)
 

@@ -1,5 +1,5 @@
-//! The time, and the offset of local time.
-use cs_civil::{FIRST_MINUTE, LAST_MINUTE, Minute};
+//! The time, the offset of local time, and its zone.
+use cs_civil::{Bytes, FIRST_MINUTE, LAST_MINUTE, Minute};
 use cs_table::MAX_TABLE;
 use jiff_core::{Error, Timestamp};
 use jiff_tz::{TimeZone, Tzif, posix};
@@ -11,14 +11,16 @@ use std::{env, fs, io};
 
 /// The time of a call.
 #[derive(Clone, Copy)]
-pub(crate) struct Now {
+pub(crate) struct Now<'a> {
     /// How many minutes local time is ahead of UTC.
     pub(crate) offset: i16,
+    /// The rule of its zone (POSIX, TZ), if it has summer time and a plan can follow it.
+    pub(crate) zone: &'a Option<Bytes>,
     /// The instant, in whole seconds.
     pub(crate) instant: Timestamp,
 }
 
-impl Now {
+impl Now<'_> {
     /// The civil minute; the nearest that there is.
     pub(crate) fn minute(self) -> Minute {
         let minutes = self
@@ -38,32 +40,46 @@ pub(crate) fn read_clock<R: Clock>(rt: &R) -> Option<Timestamp> {
     Timestamp::from_nanosecond(i128::from(since.as_secs()) * 1_000_000_000).ok()
 }
 
-/// How many minutes local time is ahead of UTC at an instant: by `TZ` as in `tzset(3)`, else by
-/// `/etc/localtime`, else 0. `TZ` is the name of a zone's file or a POSIX rule, with or without a
-/// colon before it; an empty name is UTC. None where `TZ` is neither.
-pub(crate) fn local_offset<R: Env + Files + AllocGlobal>(
+/// Local time at an instant.
+#[derive(Clone, Copy)]
+pub(crate) struct Local {
+    /// How many minutes it is ahead of UTC.
+    pub(crate) offset: i16,
+    /// The rule by which it goes on, if there is one.
+    pub(crate) rule: Option<posix::TimeZone>,
+}
+
+pub(crate) const UTC: Local = Local {
+    offset: 0,
+    rule: None,
+};
+
+/// Local time at an instant: by `TZ` as in `tzset(3)`, else by `/etc/localtime`, else UTC. `TZ` is
+/// the name of a zone's file or a POSIX rule, with or without a colon before it; an empty name is
+/// UTC. None where `TZ` is neither.
+pub(crate) fn local_time<R: Env + Files + AllocGlobal>(
     rt: &R,
     at: Timestamp,
-) -> Result<Option<i16>, AllocError> {
+) -> Result<Option<Local>, AllocError> {
     let value = match env::var(rt, "TZ") {
         Ok(value) => value,
         Err(env::VarError::NotPresent) => {
-            return Ok(Some(file_offset(rt, "/etc/localtime", at)?.unwrap_or(0)));
+            return Ok(Some(time_by_file(rt, "/etc/localtime", at)?.unwrap_or(UTC)));
         }
         Err(env::VarError::NotUnicode) => return Ok(None),
         Err(env::VarError::OutOfMemory) => return Err(AllocError),
     };
     let name = value.as_str().strip_prefix(':').unwrap_or(value.as_str());
     if name.is_empty() || name == "UTC" {
-        return Ok(Some(0));
+        return Ok(Some(UTC));
     }
     if let Some(path) = zone_path(rt, name)? {
-        if let Some(offset) = file_offset(rt, path.as_str(), at)? {
-            return Ok(Some(offset));
+        if let Some(local) = time_by_file(rt, path.as_str(), at)? {
+            return Ok(Some(local));
         }
     }
     match posix::TimeZone::parse(name.as_bytes()) {
-        Ok(rule) => Ok(offset_minutes(TimeZone::Posix(rule), at)),
+        Ok(rule) => Ok(time_by(TimeZone::Posix(rule), Some(rule), at)),
         Err(_) => Ok(None),
     }
 }
@@ -88,20 +104,20 @@ fn zone_path<R: Env + AllocGlobal>(rt: &R, name: &str) -> Result<Option<String>,
 }
 
 /// A file that can't be read has no zone, unless memory ran out.
-fn unread(error: &io::Error) -> Result<Option<i16>, AllocError> {
+fn unread(error: &io::Error) -> Result<Option<Local>, AllocError> {
     match error.kind() {
         ErrorKind::OutOfMemory => Err(AllocError),
         _ => Ok(None),
     }
 }
 
-/// The offset of a time zone's file (TZif, RFC 9636); none for another file. Files without a length
+/// The time by a time zone's file (TZif, RFC 9636); none for another file. Files without a length
 /// are skipped, as the kernel has some whose read never ends.
-fn file_offset<R: Files + AllocGlobal>(
+fn time_by_file<R: Files + AllocGlobal>(
     rt: &R,
     path: &str,
     at: Timestamp,
-) -> Result<Option<i16>, AllocError> {
+) -> Result<Option<Local>, AllocError> {
     let found = match fs::metadata(rt, path) {
         Ok(found) => found,
         Err(error) => return unread(&error),
@@ -114,13 +130,14 @@ fn file_offset<R: Files + AllocGlobal>(
         Err(error) => return unread(&error),
     };
     match Tzif::parse(rt.alloc(), None, bytes.as_slice()) {
-        Ok(zone) => Ok(offset_minutes(TimeZone::Tzif(&zone), at)),
+        Ok(zone) => Ok(time_by(TimeZone::Tzif(&zone), zone.posix_tz(), at)),
         Err(Error::OutOfMemory) => Err(AllocError),
         Err(_) => Ok(None),
     }
 }
 
-/// How many minutes the zone is ahead of UTC at an instant.
-fn offset_minutes(zone: TimeZone<'_>, at: Timestamp) -> Option<i16> {
-    i16::try_from(zone.to_offset(at).seconds / 60).ok()
+/// The time by a zone that goes on by this rule.
+fn time_by(zone: TimeZone<'_>, rule: Option<posix::TimeZone>, at: Timestamp) -> Option<Local> {
+    let offset = i16::try_from(zone.to_offset(at).seconds / 60).ok()?;
+    Some(Local { offset, rule })
 }

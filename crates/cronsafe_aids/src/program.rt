@@ -1,11 +1,14 @@
 //! The program on the machine's words, files and clock.
-use crate::now::{Now, local_offset, read_clock};
+use crate::now::{Local, Now, UTC, local_time, read_clock};
 use crate::run::run_words;
 use cs_args::{Request, parse_words};
+use cs_civil::Bytes;
 use cs_files::{Status, run_out, words_of};
 use cs_io::{Machine, Output};
+use cs_rule::read_rule;
 use jiff_core::Timestamp;
-use std::alloc::Global;
+use jiff_tz::posix;
+use std::alloc::{AllocError, Global};
 use std::process::ExitCode;
 use std::rt::{Clock, Env, Files};
 use std::thread::Threads;
@@ -35,6 +38,40 @@ fn asks_time(alloc: Global, words: &[String]) -> bool {
     }
 }
 
+/// Whether the words ask for new declarations.
+fn asks_new(alloc: Global, words: &[String]) -> bool {
+    match parse_words(alloc, words) {
+        Ok(Request::Draft(words)) => words.update.is_none(),
+        _ => false,
+    }
+}
+
+/// The text of a rule with summer time that new declarations name, if the words ask for some. Warns
+/// of a rule that no plan can follow.
+fn zone_for<E: Output>(
+    alloc: Global,
+    words: &[String],
+    rule: Option<posix::TimeZone>,
+    err: &mut E,
+) -> Result<Option<Bytes>, AllocError> {
+    let Some(rule) = rule else {
+        return Ok(None);
+    };
+    if rule.dst.is_none() || !asks_new(alloc, words) {
+        return Ok(None);
+    }
+    let text = format!(in alloc; "{rule}")?;
+    let Err(fault) = read_rule(text.as_bytes()) else {
+        return Ok(Some(Bytes::from_vec(text.into_bytes())));
+    };
+    let why = fault.text();
+    let zone = "warning: no plan can follow the machine's zone ";
+    let offset = ", so the draft keeps one offset all year: ";
+    let warning = format!(in alloc; "{zone}{text}{offset}{why}\n")?;
+    let _ = err.print(warning.as_bytes());
+    Ok(None)
+}
+
 /// Warns that `TZ` names no time zone, if the words ask for declarations, which have the offset.
 fn warn_of_zone<E: Output>(alloc: Global, words: &[String], err: &mut E) {
     match parse_words(alloc, words) {
@@ -47,32 +84,28 @@ fn warn_of_zone<E: Output>(alloc: Global, words: &[String], err: &mut E) {
     }
 }
 
-/// The time; 1970-01-01 00:00 UTC if it is neither known nor needed. An unknown time zone is UTC.
-/// An error was printed, and is the status.
+/// Local time and the instant; 1970-01-01 00:00 UTC if it is neither known nor needed. An unknown
+/// time zone is UTC. An error was printed, and is the status.
 fn time_for<R: Clock + Env + Files + AllocGlobal, E: Output>(
     rt: &R,
     words: &[String],
     err: &mut E,
-) -> Result<Now, Status> {
+) -> Result<(Local, Timestamp), Status> {
     let Some(instant) = read_clock(rt) else {
         if asks_time(rt.alloc(), words) {
             let _ = err.print(b"cronsafe: can't read the clock\n".as_slice());
             return Err(Status::DeviceFailed);
         }
-        return Ok(Now {
-            offset: 0,
-            instant: Timestamp::UNIX_EPOCH,
-        });
+        return Ok((UTC, Timestamp::UNIX_EPOCH));
     };
-    let offset = match local_offset(rt, instant) {
-        Ok(Some(offset)) => offset,
+    match local_time(rt, instant) {
+        Ok(Some(local)) => Ok((local, instant)),
         Ok(None) => {
             warn_of_zone(rt.alloc(), words, err);
-            0
+            Ok((UTC, instant))
         }
-        Err(_) => return Err(run_out(err)),
-    };
-    Ok(Now { offset, instant })
+        Err(_) => Err(run_out(err)),
+    }
 }
 
 /// Answers the words; returns the status, or the status of an error that was printed.
@@ -86,7 +119,15 @@ fn answered<R: Files + Input + Env + Clock + AllocGlobal + Threads + Sync, O: Ou
     if is_watched {
         announce(rt.alloc(), words, err);
     }
-    let now = time_for(rt, words, err)?;
+    let (local, instant) = time_for(rt, words, err)?;
+    let Ok(zone) = zone_for(rt.alloc(), words, local.rule, err) else {
+        return Err(run_out(err));
+    };
+    let now = Now {
+        offset: local.offset,
+        zone: &zone,
+        instant,
+    };
     let mut inputs = Machine::new(rt);
     Ok(run_words(rt, rt.alloc(), words, now, &mut inputs, out, err))
 }

@@ -110,14 +110,14 @@ fn find_task<'a, R: Threads + Sync + Files, I: Folders, E: Output>(
     rt: &R,
     alloc: Global,
     request: Request<'a>,
-    now: Now,
+    now: Now<'_>,
     inputs: &mut I,
     err: &mut E,
 ) -> Result<Task<'a>, Fault<'a>>
     ensures value { IsFresh (I.whole inputs.old) (I.left inputs.old)
         → Tells (λ w. WarnsOf (asking request.entry) (I.whole inputs.old) (I.failed inputs.old)
         (I.reads inputs.old) (I.reads inputs.new) w
-        × CameTo (Leads now (asking request.entry) I.tree (I.whole inputs.old) w
+        × CameTo (Leads now.entry (asking request.entry) I.tree (I.whole inputs.old) w
         (I.failed inputs.old) (I.failed inputs.new)) result)
         (sink (E.contents err.old) (E.failed err.old))
         (sink (E.contents err.new) (E.failed err.new)) }
@@ -189,17 +189,17 @@ fn find_task<'a, R: Threads + Sync + Files, I: Folders, E: Output>(
 fn answer<R: Threads + Sync>(
     rt: &R,
     alloc: Global,
-    now: Now,
+    now: Now<'_>,
     task: Task<'_>,
 ) -> Result<Response, AllocError>
-    ensures reply { IfOk result (IsReply now.offset task.entry) }
+    ensures reply { IfOk result (IsReply now.entry task.entry) }
     ensures done { IfOk result (λ r. (task.entry ≡ Ready r) ⊎ (r.status ≢ 6)) }
 {
     match task {
         Task::Advise(words, question, planned) => {
             answer_advise(rt, alloc, &words, planned, question)
         }
-        Task::Draft(words, found) => answer_draft(alloc, &words, now.offset, &found),
+        Task::Draft(words, found) => answer_draft(alloc, &words, now.offset, now.zone, &found),
         Task::Learn(factor, found) => answer_learn(alloc, factor, &found),
         Task::Chart(words, question, found) => answer_chart(alloc, &words, question, &found),
         Task::Explain(name) => answer_explain(alloc, name),
@@ -253,7 +253,7 @@ pub(crate) fn respond<R: Threads + Sync + Files, S: AsStr, I: Folders, E: Output
     rt: &R,
     alloc: Global,
     words: &[S],
-    now: Now,
+    now: Now<'_>,
     inputs: &mut I,
     err: &mut E,
 ) -> Result<Response, AllocError>
@@ -261,7 +261,7 @@ pub(crate) fn respond<R: Threads + Sync + Files, S: AsStr, I: Folders, E: Output
     ensures value { IsFresh (I.whole inputs.old) (I.left inputs.old)
         → Tells (λ w. WarnsOn (map S.text words.now) (I.whole inputs.old) (I.failed inputs.old)
         (I.reads inputs.old) (I.reads inputs.new) w
-        × IfOk result (Answers now (map S.text words.now) I.tree
+        × IfOk result (Answers now.entry (map S.text words.now) I.tree
         (I.whole inputs.old) w (I.failed inputs.old) (I.failed inputs.new)))
         (sink (E.contents err.old) (E.failed err.old))
         (sink (E.contents err.new) (E.failed err.new)) }

@@ -22,14 +22,14 @@ pub(crate) fn run_words<R: Threads + Sync + Files, S: AsStr, I: Folders, O: Outp
     rt: &R,
     alloc: Global,
     words: &[S],
-    now: Now,
+    now: Now<'_>,
     inputs: &mut I,
     out: &mut O,
     err: &mut E,
 ) -> u8
     // If no file of known content has been read so far.
     ensures value { IsFresh (I.whole inputs.old) (I.left inputs.old)
-        → Runs now (map S.text words.now) I.tree
+        → Runs now.entry (map S.text words.now) I.tree
         (I.whole inputs.old) (I.failed inputs.old) (I.failed inputs.new)
         (I.reads inputs.old) (I.reads inputs.new)
         (sink (O.contents out.old) (O.failed out.old))

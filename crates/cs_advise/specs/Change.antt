@@ -1,13 +1,17 @@
 -- Changes of a table or of declarations.
-use Rattle.std.specs.Prelude.{◌≡◌, ◌≢◌, ◌==◌, ◌+◌, ◌<◌, ℕ, Bool, List, Ok, false, length, true}
+use Rattle.std.specs.Prelude.{◌≡◌, ◌≢◌, ◌==◌, ◌+◌, ◌/◌, ◌%◌, ◌<◌, ℕ, Bool, List, Ok, false, length, true}
 use Rattle.std.specs.Prelude.{if◌then◌else◌, slice_index_or}
 use Rattle.cs_anacrontab.specs.Anacrontab.{Table as JobTable}
+use Rattle.cs_civil.specs.Calendar.{kind}
+use Rattle.cs_civil.specs.declared.minute.TheConstants.{MINUTES_OF_DAY}
+use Rattle.cs_schedule.specs.Times.{is_due}
 use Rattle.cs_crontab.specs.Crontab.{CommandLine, Table}
 use Rattle.cs_crontab.specs.Faults.{IsCrontab}
 use Rattle.cs_crontab.specs.declared.table.When.{When}
+use Rattle.cs_crontab.specs.declared.table.When.TheVariants.{At, Reboot}
 use Rattle.cs_decl.specs.Join.{joined}
 use Rattle.cs_decl.specs.Meaning.{declared_by}
-use Rattle.cs_plan.specs.Plan.{Declared, is_due, no_command}
+use Rattle.cs_plan.specs.Plan.{Declared, no_command}
 use Rattle.cs_decl.specs.declared.entries.Entries.{Entries}
 use Rattle.cs_advise.specs.Edit.{HasValue, IsPut}
 use Rattle.cs_advise.specs.Replaced.{IsOtherLine}
@@ -18,10 +22,15 @@ use Rattle.cs_advise.specs.declared.change.Member.{Member}
 use Rattle.cs_advise.specs.declared.change.Shift.{Shift}
 use Rattle.cs_advise.specs.declared.source.Source.{Source}
 
--- From minute `minutes` on, the other is due exactly `minutes` after each minute at which the one
--- is. Minute 0 is 1970-01-01 00:00.
+-- The fields list a minute (crontab(5)). Minute 0 is 1970-01-01 00:00.
+abbrev pub is_listed : When → ℕ → Bool
+is_listed (At times) t = is_due times (kind (t / MINUTES_OF_DAY)) (t % MINUTES_OF_DAY)
+is_listed Reboot t = false
+
+-- From minute `minutes` on, the other is listed exactly `minutes` after each minute at which the one
+-- is. Where a zone's clock jumps, cron(8) may start them otherwise.
 abbrev pub IsLater : ℕ → When → When → Type 0
-IsLater minutes one other = (t : ℕ) → is_due other (t + minutes) ≡ is_due one t
+IsLater minutes one other = (t : ℕ) → is_listed other (t + minutes) ≡ is_listed one t
 
 -- the starts come so many minutes later, or earlier
 abbrev pub IsMovedBy : Bool → ℕ → When → When → Type 0

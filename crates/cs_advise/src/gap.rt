@@ -27,8 +27,12 @@ fn gap_after(plan: &Plan, first: u16, second: u16) -> i32 {
 }
 
 /// The smallest gap between windows of the job and of other commands of its group; none without
-/// another one.
+/// another one, and none with summer time, which moves windows on the days on which it begins and
+/// ends.
 pub(crate) fn gap_of(plan: &Plan, job: u16) -> Option<i32> {
+    if plan.zone().saving() != 0 {
+        return None;
+    }
     let group = plan.job_at(job).group()?;
     let crons = plan.crontab().lines().len() as u16;
     let mut least = None;

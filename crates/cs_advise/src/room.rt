@@ -28,7 +28,7 @@ pub struct Room {
     /// The greatest longest time that was judged safe, all else as declared.
     pub most: u16,
     /// The smallest gap between declared windows of the job and of others of its group; none
-    /// without another one, and for anacron jobs.
+    /// without another one, for anacron jobs, and if the plan's zone has summer time.
     pub gap: Option<i32>,
 }
 

@@ -49,7 +49,7 @@ fn rooms_of<R: Threads + Sync>(rt: &R, alloc: Global, plan: &Plan) -> Result<Vec
 }
 
 /// The end of a line: ` (the most)` where that is so, and `, gap GAP` with `meet` where windows
-/// overlap and `-` where no other command is in the group.
+/// overlap and `-` where there is none.
 fn end_text(alloc: Global, room: Room) -> Result<String, AllocError> {
     let limit = if room.most == MAX_MINUTES {
         " (the most)"

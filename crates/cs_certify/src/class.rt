@@ -1,18 +1,18 @@
 use cs_civil::Sequence;
 use cs_claims::{CertError, CertFault, Class, DueList, GroupBacklog};
-use cs_profile::{DayClass, Facts, GroupBound, Task};
+use cs_profile::{DayClass, Due, Facts, GroupBound};
 use cs_wait::{Backlog, BadPiece, Piece};
 use std::alloc::{AllocError, Global};
 
-fn due_lists(alloc: Global, facts: &Facts, jobs: &[u16]) -> Result<Sequence<DueList>, AllocError> {
+fn due_lists(alloc: Global, facts: &Facts, due: &[Due]) -> Result<Sequence<DueList>, AllocError> {
     let mut lists = Sequence::new(alloc);
-    for job in jobs {
-        let Some(task) = facts.tasks().get(usize::from(*job)) else {
-            continue;
-        };
-        if !task.minutes.is_empty() {
-            let minutes = Sequence::from_slice(alloc, &task.minutes)?;
-            lists.push(DueList { job: *job, minutes })?;
+    for due in due {
+        if let Some(task) = facts.tasks().get(usize::from(due.job)) {
+            let minutes = Sequence::from_slice(alloc, task.minutes(*due))?;
+            lists.push(DueList {
+                job: due.job,
+                minutes,
+            })?;
         }
     }
     Ok(lists)
@@ -47,12 +47,12 @@ pub(crate) fn classes_of(
 ) -> Result<Sequence<Class>, CertError> {
     let mut listed = Sequence::new(alloc);
     for class in classes {
-        let jobs = match facts.due().get(usize::from(class.profile)) {
-            Some(jobs) => jobs.as_slice(),
+        let due = match facts.due().get(usize::from(class.profile)) {
+            Some(due) => due.as_slice(),
             None => &[],
         };
         listed.push(Class {
-            due: due_lists(alloc, facts, jobs)?,
+            due: due_lists(alloc, facts, due)?,
             backlog: backlogs(alloc, &class.bounds)?,
         })?;
     }

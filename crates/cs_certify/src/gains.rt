@@ -1,6 +1,6 @@
 //! What arrives for the lock of a group on the days of each profile, and what that leaves for the
 //! day after.
-use cs_profile::{Facts, Task};
+use cs_profile::{Due, Facts, Task};
 use std::alloc::{AllocError, Global};
 
 pub(crate) const MINUTES_OF_DAY: u32 = cs_civil::MINUTES_OF_DAY as u32;
@@ -60,14 +60,14 @@ pub(crate) fn is_waited_for(facts: &Facts, group: u8) -> bool {
 fn work_by_minute(
     alloc: Global,
     tasks: &[Task],
-    due: &[u16],
+    due: &[Due],
     group: u8,
 ) -> Result<Vec<u32>, AllocError> {
     let mut work: Vec<u32> = Vec::from_elem(alloc, 0, MINUTES_OF_DAY as usize)?;
-    for job in due {
-        if let Some(task) = tasks.get(usize::from(*job)) {
+    for due in due {
+        if let Some(task) = tasks.get(usize::from(due.job)) {
             if takes_lock_of(task, group) {
-                for minute in task.minutes.as_slice() {
+                for minute in task.minutes(*due) {
                     if let Some(work) = work.get_mut(usize::from(*minute)) {
                         *work = work.saturating_add(u32::from(task.max));
                     }
@@ -81,7 +81,7 @@ fn work_by_minute(
 fn arrivals_of(
     alloc: Global,
     tasks: &[Task],
-    due: &[u16],
+    due: &[Due],
     group: u8,
 ) -> Result<Arrivals, AllocError> {
     let by_minute = work_by_minute(alloc, tasks, due, group)?;

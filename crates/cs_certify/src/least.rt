@@ -26,36 +26,31 @@ fn longest_of(locks: &[Lock], job: usize) -> Longest {
     longest
 }
 
-fn is_ever_due(facts: &Facts, job: usize) -> bool {
-    for due in facts.due() {
-        for other in due.as_slice() {
-            if usize::from(*other) == job {
-                return true;
-            }
-        }
+/// The last minute of a day at which a cron job is ever due.
+fn last_minute(task: &Task) -> Option<u16> {
+    let mut latest = None;
+    for list in task.lists.as_slice() {
+        latest = latest.max(list.last().copied());
     }
-    false
+    latest
 }
 
 /// When the last window of a job ends, in minutes from the start of the day on which it begins.
-fn end_of(plan: &Plan, facts: &Facts, locks: &[Lock], job: usize, task: &Task) -> u32 {
+fn end_of(plan: &Plan, locks: &[Lock], job: usize, task: &Task) -> u32 {
     if !task.is_cron {
         return u32::from(plan.hours().to())
             .saturating_add(u32::from(task.max))
             .saturating_sub(1);
     }
-    let Some(minute) = task.minutes.last() else {
+    let Some(minute) = last_minute(task) else {
         return 0;
     };
-    if !is_ever_due(facts, job) {
-        return 0;
-    }
     let lasts = if task.mode.waits() {
         longest_of(locks, job).reach
     } else {
         u32::from(task.max)
     };
-    lasts.saturating_add(u32::from(*minute))
+    lasts.saturating_add(u32::from(minute))
 }
 
 /// The reach of each job that waits. `None` if one is over three days.
@@ -72,7 +67,7 @@ fn reaches(
 ) -> Result<Option<Vec<JobReach>>, AllocError> {
     let mut latest = 0;
     for (job, task) in facts.tasks().iter().enumerate() {
-        latest = end_of(plan, facts, locks, job, task).max(latest);
+        latest = end_of(plan, locks, job, task).max(latest);
     }
     let is_midnight = latest > MINUTES_OF_DAY && latest % MINUTES_OF_DAY == 0;
     let mut reaches = Vec::new(alloc);

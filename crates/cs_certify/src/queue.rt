@@ -1,6 +1,6 @@
 //! Who comes one after the other for the lock of a group, day by day.
 use crate::gains::{MINUTES_OF_DAY, takes_lock_of, waits_for};
-use cs_profile::{Calendar, Facts, Task};
+use cs_profile::{Calendar, Due, Facts, Task};
 use std::alloc::{AllocError, Global};
 
 /// When the lock is free is followed no further ahead than this many minutes.
@@ -77,22 +77,22 @@ pub(crate) fn work_of(task: &Task) -> u32 {
 fn runs_on(
     alloc: Global,
     tasks: &[Task],
-    due: &[u16],
+    due: &[Due],
     group: u8,
 ) -> Result<Vec<QueuedRun>, AllocError> {
     let mut runs = Vec::new(alloc);
-    for job in due {
-        if let Some(task) = tasks.get(usize::from(*job)) {
+    for due in due {
+        if let Some(task) = tasks.get(usize::from(due.job)) {
             if takes_lock_of(task, group) {
-                for minute in task.minutes.as_slice() {
-                    let due = u32::from(*minute);
+                for minute in task.minutes(*due) {
+                    let minute = u32::from(*minute);
                     runs.push(QueuedRun {
-                        job: *job,
-                        due,
+                        job: due.job,
+                        due: minute,
                         work: work_of(task),
                         is_tried: task.is_try(),
                         free: 0,
-                        start: due,
+                        start: minute,
                     })?;
                 }
             }

@@ -151,12 +151,12 @@ fn add_day(longest: &mut [Longest], facts: &Facts, group: u8, day: &LikeDays) {
     let Some(due) = facts.due().get(usize::from(day.profile)) else {
         return;
     };
-    for job in due.as_slice() {
-        let place = usize::from(*job);
+    for due in due.as_slice() {
+        let place = usize::from(due.job);
         if let (Some(task), Some(longest)) = (facts.tasks().get(place), longest.get_mut(place)) {
             if waits_for(task, group) {
                 for busy in day.busy.as_slice() {
-                    let minutes = task.minutes.as_slice();
+                    let minutes = task.minutes(*due);
                     *longest = longest.or(longest_in(busy, minutes, day.free_after));
                 }
             }

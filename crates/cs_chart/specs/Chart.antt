@@ -1,7 +1,8 @@
 -- What a picture shows of the jobs of two tables, or of a plan.
 use Rattle.std.specs.Prelude.{◌≡◌, ℕ, ◌+◌, ◌-◌, ◌*◌, ◌==◌, ◌^◌, min, List, [], ◌∷◌, ◌++◌, codes, decimal, flat_map, length, map, nat_lt, if◌then◌else◌, Option, None, Some, option_map}
 use Rattle.cs_civil.specs.Calendar.{Kind}
-use Rattle.cs_schedule.specs.Times.{is_due}
+use Rattle.cs_zone.specs.Starts.{is_due}
+use Rattle.cs_zone.specs.Zone.{Zone, no_zone}
 use Rattle.cs_crontab.specs.Crontab.{Table}
 use Rattle.cs_crontab.specs.declared.table.When.{When}
 use Rattle.cs_crontab.specs.declared.table.When.TheVariants.{At, Reboot}
@@ -15,10 +16,10 @@ use Rattle.cs_chart.specs.declared.row.Row.{Row}
 use Rattle.cs_chart.specs.declared.row.Terms.{Terms}
 use Rattle.cs_chart.specs.Bars.{AreBarsOf, Days, is_held}
 
--- windows begin where a command is due (crontab(5))
-abbrev pub windows_of : When → ℕ → Option (Job Kind)
-windows_of (At times) max = Some (record { begins = is_due times; lasts = max })
-windows_of Reboot max = None
+-- windows begin where a command is due by the clock of the zone (cron(8))
+abbrev pub windows_of : Zone → When → ℕ → Option (Job Kind)
+windows_of zone (At times) max = Some (record { begins = is_due zone times; lasts = max })
+windows_of zone Reboot max = None
 
 -- from the first catch-up minute to the end of a run that starts in the last one
 abbrev pub catch_up : Terms → ℕ
@@ -31,7 +32,7 @@ windows_of_anacron terms =
 
 -- the windows of the jobs of two tables, in order of line; none for `@reboot`
 abbrev pub jobs_of_tables : Terms → Table → JobTable → List (Option (Job Kind))
-jobs_of_tables terms table jobs = map (λ line. windows_of line.when terms.max) table.lines
+jobs_of_tables terms table jobs = map (λ line. windows_of no_zone line.when terms.max) table.lines
     ++ map (λ job. windows_of_anacron terms) jobs.lines
 
 -- the longest time of this job, and the catch-up hours
@@ -41,7 +42,7 @@ terms_at d j = record { max = (job_at d j).max; from = d.hours.from; to = d.hour
 -- the windows of the jobs of a plan, by number
 abbrev pub jobs_of_plan : Declared → List (Option (Job Kind))
 jobs_of_plan d =
-    map (λ j. windows_of (command_of d j).when (job_at d j).max) (below (crons d))
+    map (λ j. windows_of d.zone (command_of d j).when (job_at d j).max) (below (crons d))
     ++ map (λ j. windows_of_anacron (terms_at d (crons d + j)))
     (below (length d.anacrontab.lines))
 

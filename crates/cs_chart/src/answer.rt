@@ -6,6 +6,7 @@ ghost use Rattle.cs_files.specs.Asked.{Tells, Warns};
 ghost use Rattle.cs_files.specs.Ending.{sink};
 ghost use Rattle.cs_files.specs.Trouble.{CameTo, IsHonestOf};
 ghost use Rattle.cs_files.specs.Turn.{chart_paths};
+ghost use Rattle.cs_zone.specs.Zone.{no_zone};
 ghost use Rattle.cs_chart.specs.Chart.{shown_of};
 ghost use Rattle.cs_chart.specs.Answer.{FindsDrawable, IsDrawn, jobs_of};
 
@@ -20,6 +21,7 @@ use cs_files::{Fault, Response, Tables, declared_plan_from, find_tables};
 use cs_io::{Inputs, Output};
 use cs_place::Place;
 use cs_plan::Plan;
+use cs_zone::Zone;
 use std::alloc::{AllocError, Global};
 
 /// What a picture is drawn of.
@@ -69,7 +71,9 @@ fn rows_of<'a>(
     alloc: Global,
     question: Question,
     found: &'a Drawable,
+    none: &'a Zone,
 ) -> Result<Vec<Row<'a>>, AllocError>
+    requires { none.now ≡ no_zone }
     ensures { IfOk result (λ rows. map shown_of rows.items ≡ jobs_of question found.now) }
 {
     match found {
@@ -81,7 +85,7 @@ fn rows_of<'a>(
                 to: hours.to(),
             };
             let (table, jobs) = (&tables.crontab, &tables.jobs);
-            table_rows(alloc, table, jobs, tables.places.as_slice(), terms)
+            table_rows(alloc, table, jobs, tables.places.as_slice(), none, terms)
         }
         Drawable::Plan(plan, places) => plan_rows(alloc, plan, places.as_slice()),
     }
@@ -100,9 +104,10 @@ pub fn answer_chart(
     ensures done { IfOk result (λ r. r.status ≢ 6) }
 {
     let span = DaySpan::new(question.day(), request.days);
-    let rows = rows_of(alloc, question, found)?;
+    let none = Zone::none();
+    let rows = rows_of(alloc, question, found, &none)?;
     let title = title(alloc, request.day.table, span)?;
-    let terms = terms_text(alloc, question, found)?;
+    let terms = terms_text(alloc, question, found, span)?;
     let meetings = meetings_of(alloc, rows.as_slice(), span)?;
     let plan = match found {
         Drawable::Tables(_) => None,

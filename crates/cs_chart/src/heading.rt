@@ -5,12 +5,17 @@ use crate::sheet::{MARGIN, Sheet};
 use crate::span::DaySpan;
 use crate::text::{push_cut, push_day, push_label};
 use cs_args::Question;
-use cs_plan::Group;
+use cs_civil::kind_of;
+use cs_plan::{Group, Plan};
+use cs_zone::{Zone, march_day, wall_on};
 use std::alloc::{AllocError, Global};
 use std::fmt::Write;
 
 /// How many cells of the table's name fit the title.
 const SUBJECT_CELLS: usize = 72;
+
+/// How many cells of a clock's name fit.
+const CLOCK_CELLS: usize = 16;
 
 /// How many groups are named in a line, and how far apart, in pixels.
 const GROUPS_OF_LINE: usize = 8;
@@ -37,11 +42,44 @@ pub(crate) fn title(alloc: Global, table: &str, span: DaySpan) -> Result<String,
     Ok(title)
 }
 
+/// Whether the zone's clock differs from the plan's clock on a day of the picture.
+fn differs_on(zone: Zone, span: DaySpan) -> bool {
+    for place in 0..span.days() {
+        let kind = kind_of(span.day(place));
+        let start = 1_440 * march_day(kind);
+        if wall_on(zone, kind, 0) != start || wall_on(zone, kind, 1_439) != start + 1_439 {
+            return true;
+        }
+    }
+    false
+}
+
+/// Adds whose hours they are, if the plan has a zone: `, hours by CET; CEST is 60 minutes ahead`.
+fn push_clocks(text: &mut String, plan: &Plan, span: DaySpan) -> Result<(), AllocError> {
+    let Some(clocks) = plan.clocks() else {
+        return Ok(());
+    };
+    text.push_str(", hours by ")?;
+    push_cut(text, clocks.plan.as_slice(), CLOCK_CELLS)?;
+    let zone = *plan.zone();
+    if !differs_on(zone, span) {
+        return Ok(());
+    }
+    text.push_str("; ")?;
+    push_cut(text, clocks.other.as_slice(), CLOCK_CELLS)?;
+    let (saving, way) = (
+        zone.saving(),
+        if zone.is_ahead() { "ahead" } else { "behind" },
+    );
+    write!(text, " is {saving} minutes {way}")
+}
+
 /// The terms of all jobs: `each run takes at most 60 min, catch-up from 05:00 to 24:00`.
 pub(crate) fn terms_text(
     alloc: Global,
     question: Question,
     found: &Drawable,
+    span: DaySpan,
 ) -> Result<String, AllocError> {
     let mut text = String::from_str(alloc, "each run takes at most ")?;
     let hours = match found {
@@ -59,6 +97,9 @@ pub(crate) fn terms_text(
     for (words, minute) in [(", catch-up from ", hours.from()), (" to ", hours.to())] {
         let (hour, minute) = (minute / 60, minute % 60);
         write!(text, "{words}{hour:02}:{minute:02}")?;
+    }
+    if let Drawable::Plan(plan, _) = found {
+        push_clocks(&mut text, plan, span)?;
     }
     Ok(text)
 }

@@ -13,6 +13,7 @@ use crate::sheet::{MARGIN, NAME_CELLS, PLOT_LEFT, PLOT_RIGHT, ROW, begin_plot};
 use crate::span::DaySpan;
 use crate::text::{push_cut, push_end, push_label, push_minute};
 use cs_history::Mode;
+use cs_plan::Plan;
 use cs_windows::Occupied;
 use std::alloc::{AllocError, Global};
 use std::fmt::Write;
@@ -25,6 +26,7 @@ pub(crate) struct Beside<'a> {
     pub(crate) top: u32,
     /// What the windows of the job meet.
     pub(crate) meeting: Option<&'a Meeting<'a>>,
+    pub(crate) plan: Option<&'a Plan>,
 }
 
 /// How many cells of a name are shown where the pointer rests on its row.
@@ -66,13 +68,18 @@ fn push_row_name(text: &mut String, row: &Row<'_>) -> Result<(), AllocError> {
 }
 
 /// Adds the jobs that it meets, and when: `, meets line 5 first on 2024-09-13 Fri 01:30, job ..`.
-fn push_met(text: &mut String, meeting: &Meeting<'_>, span: DaySpan) -> Result<(), AllocError> {
+fn push_met(
+    alloc: Global,
+    text: &mut String,
+    meeting: &Meeting<'_>,
+    beside: &Beside<'_>,
+) -> Result<(), AllocError> {
     let mut start = ", meets ";
     for (row, first) in meeting.others.as_slice() {
         text.push_str(start)?;
         push_name(text, row, TITLE_CELLS)?;
         text.push_str(" first on ")?;
-        push_minute(text, span, *first)?;
+        push_minute(alloc, text, beside.span, *first, beside.plan)?;
         start = ", ";
     }
     Ok(())
@@ -80,7 +87,12 @@ fn push_met(text: &mut String, meeting: &Meeting<'_>, span: DaySpan) -> Result<(
 
 /// Adds the text for a pointer that rests on the row: the job, where its line comes from, as `line
 /// 5 /usr/bin/backup from /etc/cron.d/munin:12 (munin)`, and what is declared of it.
-fn push_title(text: &mut String, row: &Row<'_>, beside: &Beside<'_>) -> Result<(), AllocError> {
+fn push_title(
+    alloc: Global,
+    text: &mut String,
+    row: &Row<'_>,
+    beside: &Beside<'_>,
+) -> Result<(), AllocError> {
     let words = match row.name {
         Name::Line(number, command) => {
             write!(text, "line {number} ")?;
@@ -117,7 +129,7 @@ fn push_title(text: &mut String, row: &Row<'_>, beside: &Beside<'_>) -> Result<(
         })?;
     }
     match beside.meeting {
-        Some(meeting) => push_met(text, meeting, beside.span),
+        Some(meeting) => push_met(alloc, text, meeting, beside),
         None => Ok(()),
     }
 }
@@ -171,10 +183,10 @@ fn push_over(
             push_triangles(text, span, meeting.bars.as_slice())?;
         }
     }
-    let Occupied::Cron { schedule, reach: _ } = occupied else {
+    let Occupied::Cron { schedule, zone, .. } = occupied else {
         return Ok(());
     };
-    let marks = marks_of(alloc, schedule, span, 4 * u32::from(span.days()))?;
+    let marks = marks_of(alloc, schedule, **zone, span, 4 * u32::from(span.days()))?;
     if marks.is_coarse {
         found.is_coarse = true;
         let start = "<path class=\"many\" stroke=\"#000\" stroke-width=\"3\" d=\"";
@@ -240,7 +252,7 @@ pub(crate) fn row_text(
 {
     let y = beside.top.saturating_add(13);
     let mut text = String::from_str(alloc, "<g class=\"row\"><title>")?;
-    push_title(&mut text, row, beside)?;
+    push_title(alloc, &mut text, row, beside)?;
     write!(text, "</title>\n<text x=\"{MARGIN}\" y=\"{y}\">")?;
     push_row_name(&mut text, row)?;
     text.push_str("</text>\n")?;

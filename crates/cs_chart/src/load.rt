@@ -6,6 +6,7 @@ use crate::row::Row;
 use crate::sheet::{MARGIN, PLOT_LEFT, PLOT_WIDTH, Sheet, begin_plot};
 use crate::span::DaySpan;
 use crate::text::push_minute;
+use cs_plan::Plan;
 use std::alloc::{AllocError, Global};
 use std::fmt::Write;
 
@@ -91,13 +92,14 @@ pub(crate) fn push_peak(
     span: DaySpan,
     loads: &[u32],
     rows: &[Row<'_>],
+    plan: Option<&Plan>,
 ) -> Result<(), AllocError> {
     let (most, first) = peak_of(loads);
     if most == 0 {
         return Ok(());
     }
     let mut note = format!(in alloc; "highest load: {most}, first on ")?;
-    push_minute(&mut note, span, first)?;
+    push_minute(alloc, &mut note, span, first, plan)?;
     let mut count = 0usize;
     for row in rows {
         if is_over(alloc, span, row, first)? {

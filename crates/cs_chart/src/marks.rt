@@ -6,6 +6,7 @@ use crate::bar::Bar;
 use crate::span::DaySpan;
 use cs_civil::{MINUTES_OF_DAY, kind_of};
 use cs_schedule::{MinuteSet, Schedule};
+use cs_zone::Zone;
 use std::alloc::{AllocError, Global};
 
 /// Bars or marks as they are drawn.
@@ -74,6 +75,7 @@ pub(crate) fn without_gaps(alloc: Global, bars: &[Bar], gap: u32) -> Result<Draw
 pub(crate) fn marks_of(
     alloc: Global,
     schedule: &Schedule,
+    zone: Zone,
     span: DaySpan,
     gap: u32,
 ) -> Result<Drawn, AllocError> {
@@ -82,7 +84,7 @@ pub(crate) fn marks_of(
         is_coarse: false,
     };
     for place in 0..span.days() {
-        let due = schedule.minutes_of(kind_of(span.day(place)));
+        let due = zone.minutes_of(schedule, kind_of(span.day(place)));
         let start = u32::from(MINUTES_OF_DAY) * u32::from(place);
         drawn.push_day(&due, start, gap)?;
     }

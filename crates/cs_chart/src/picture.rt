@@ -58,6 +58,7 @@ fn rows_drawn(
             span: scene.span,
             top: top.saturating_add(height),
             meeting: scene.meetings.get(place),
+            plan: scene.plan,
         };
         let hours = hours_above(alloc, scene.span, place, beside.top)?;
         text.push_str(hours.as_str())?;
@@ -137,7 +138,8 @@ fn push_foot(
         sheet.down(HOURS);
     }
     sheet.down(6);
-    push_peak(alloc, sheet, scene.span, found.loads.as_slice(), scene.rows)?;
+    let loads = found.loads.as_slice();
+    push_peak(alloc, sheet, scene.span, loads, scene.rows, scene.plan)?;
     push_notes(alloc, sheet, scene, found)?;
     sheet.text.push_str("</svg>\n")
 }

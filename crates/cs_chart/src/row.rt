@@ -1,5 +1,6 @@
 //! The rows of a picture: what is drawn of each job.
 ghost use Rattle.std.specs.Prelude.{◌≡◌, IfOk, map};
+ghost use Rattle.cs_zone.specs.Zone.{no_zone};
 ghost use Rattle.cs_chart.specs.Chart.{jobs_of_plan, jobs_of_tables, shown_of, windows_of};
 ghost use Rattle.cs_chart.specs.Chart.{terms_at, windows_of_anacron};
 
@@ -9,6 +10,7 @@ use cs_history::Mode;
 use cs_place::{Place, place_of};
 use cs_plan::{Group, Job as PlanJob, Plan};
 use cs_windows::Occupied;
+use cs_zone::Zone;
 use std::alloc::{AllocError, Global};
 
 /// What holds of all jobs of two tables without declarations.
@@ -82,14 +84,16 @@ fn declared_of(plan: &Plan, job: PlanJob) -> Declared<'_> {
 fn line_row<'a>(
     line: &'a Line,
     places: &'a [Place],
+    zone: &'a Zone,
     max: u16,
     declared: Option<Declared<'a>>,
 ) -> Row<'a>
-    ensures { shown_of result ≡ windows_of line.now.when max }
+    ensures { shown_of result ≡ windows_of zone.now line.now.when max }
 {
     let occupied = match line.when() {
         When::At(schedule) => Some(Occupied::Cron {
             schedule,
+            zone,
             reach: max,
         }),
         When::Reboot => None,
@@ -126,14 +130,16 @@ pub(crate) fn table_rows<'a>(
     table: &'a Crontab,
     jobs: &'a Anacrontab,
     places: &'a [Place],
+    none: &'a Zone,
     terms: Terms,
 ) -> Result<Vec<Row<'a>>, AllocError>
+    requires { none.now ≡ no_zone }
     ensures { IfOk result (λ rows. map shown_of rows.items
         ≡ jobs_of_tables terms table.now jobs.now) }
 {
     let mut rows = Vec::new(alloc);
     for line in table.lines() {
-        rows.push(line_row(line, places, terms.max, None))?;
+        rows.push(line_row(line, places, none, terms.max, None))?;
     }
     for job in jobs.lines() {
         rows.push(job_row(job, terms, None))?;
@@ -166,7 +172,7 @@ pub(crate) fn plan_rows<'a>(
     for place in 0..lines.len() {
         let job = plan.job_at(place as u16);
         let declared = Some(declared_of(plan, job));
-        rows.push(line_row(&lines[place], places, job.max(), declared))?;
+        rows.push(line_row(&lines[place], places, plan.zone(), job.max(), declared))?;
     }
     let crons = plan.crons();
     let jobs = plan.anacrontab().lines();

@@ -1,13 +1,18 @@
 //! Texts of a picture: escaped, and cut to fit.
 use crate::span::DaySpan;
 use bstr::ByteSlice;
-use cs_civil::{Day, MINUTES_OF_DAY, day_text, kind_of, weekday_name};
-use std::alloc::AllocError;
+use cs_civil::{Day, MINUTES_OF_DAY, Minute, day_text, kind_of, weekday_name};
+use cs_plan::Plan;
+use cs_wall::push_wall;
+use std::alloc::{AllocError, Global};
 use std::fmt::Write;
 use unicode_width::UnicodeWidthChar;
 
 /// How many cells of a label fit, such as the name of a group.
 const LABEL_CELLS: usize = 16;
+
+/// Room for a blank and `(2024-07-01 02:30 NAME)`, with a name of 15 letters.
+const WALL_CELLS: usize = 40;
 
 /// How many cells of fixed width a character takes; at least one, so that each text has an end.
 fn cells_of(character: char) -> usize {
@@ -96,12 +101,44 @@ pub(crate) fn push_day(text: &mut String, day: Day) -> Result<(), AllocError> {
     push_cut(text, weekday_name(kind_of(day).dow()).as_bytes(), 3)
 }
 
-/// Adds a minute of the picture: `YYYY-MM-DD Fri 01:30`.
-pub(crate) fn push_minute(text: &mut String, span: DaySpan, minute: u32) -> Result<(), AllocError> {
+/// Adds what the clock of the plan's zone shows in a minute, if it isn't what the plan's clock shows:
+/// ` (2024-07-01 02:30 CEST)`.
+fn push_other(
+    alloc: Global,
+    text: &mut String,
+    plan: Option<&Plan>,
+    minute: u64,
+) -> Result<(), AllocError> {
+    let Some(plan) = plan else {
+        return Ok(());
+    };
+    let Some(clocks) = plan.clocks() else {
+        return Ok(());
+    };
+    let mut wall = Vec::new(alloc);
+    if let Some(minute) = Minute::new(minute) {
+        push_wall(&mut wall, plan.zone(), clocks.other.as_slice(), minute)?;
+    }
+    push_cut(text, wall.as_slice(), WALL_CELLS)
+}
+
+/// Adds a minute of the picture: `2024-07-01 Mon 01:30`, and in brackets what the clock of the
+/// plan's zone shows, where that differs.
+pub(crate) fn push_minute(
+    alloc: Global,
+    text: &mut String,
+    span: DaySpan,
+    minute: u32,
+    plan: Option<&Plan>,
+) -> Result<(), AllocError> {
     let place = u8::try_from(minute / u32::from(MINUTES_OF_DAY)).unwrap_or(0);
-    push_day(text, span.day(place.min(span.days() - 1)))?;
-    let (hour, minute) = (minute / 60 % 24, minute % 60);
-    write!(text, " {hour:02}:{minute:02}")
+    let day = span.day(place.min(span.days() - 1));
+    push_day(text, day)?;
+    let (hour, of_hour) = (minute / 60 % 24, minute % 60);
+    write!(text, " {hour:02}:{of_hour:02}")?;
+    let of_day = minute % u32::from(MINUTES_OF_DAY);
+    let minute = u64::from(MINUTES_OF_DAY) * day.number() + u64::from(of_day);
+    push_other(alloc, text, plan, minute)
 }
 
 /// Adds the name of a group or what a row says, so far from the left and from the top.

@@ -7,7 +7,8 @@ use Rattle.cs_history.specs.Plan.{Plan, IsPlan}
 use Rattle.cs_history.specs.declared.run.Going.{Going}
 use Rattle.cs_crontab.specs.declared.table.When.{When}
 use Rattle.cs_crontab.specs.declared.table.When.TheVariants.{At, Reboot}
-use Rattle.cs_schedule.specs.Times.{is_due as is_time_due}
+use Rattle.cs_zone.specs.Starts.{is_due as is_time_due}
+use Rattle.cs_zone.specs.Zone.{Zone}
 use Rattle.cs_plan.specs.Plan.{Declared, as_plan, command_of, is_due}
 use Rattle.cs_windows.specs.declared.reach.JobReach.{JobReach}
 use Rattle.cs_classes.specs.Planned.{due_on, is_due_on, reach_by}
@@ -28,15 +29,15 @@ use Rattle.cs_check.specs.declared.fault.CheckError.{CheckError}
 use Rattle.cs_check.specs.declared.fault.CheckError.TheVariants as errors
 use Rattle.cs_theorem.specs.Told.{told}
 
-due_step : (w : When) (d m : ℕ) → m < 1440 → is_due w (1440 * d + m) ≡ is_due_on w (kind d) m
-due_step (At schedule) d m lt =
+due_step : (z : Zone) (w : When) (d m : ℕ) → m < 1440 → is_due z w (1440 * d + m) ≡ is_due_on z w (kind d) m
+due_step z (At schedule) d m lt =
     let x : (1440 * d + m) / 1440 ≡ d = omega (arith, lt) in
     let y : (1440 * d + m) % 1440 ≡ m = omega (arith, lt) in
-    ap (λ (k : ℕ). is_time_due schedule (kind k) ((1440 * d + m) % 1440)) x ∙ ap (λ (k : ℕ). is_time_due schedule (kind d) k) y
-due_step Reboot d m lt = refl
+    ap (λ (k : ℕ). is_time_due z schedule (kind k) ((1440 * d + m) % 1440)) x ∙ ap (λ (k : ℕ). is_time_due z schedule (kind d) k) y
+due_step z Reboot d m lt = refl
 
 pub by_kind : (d : Declared) → IsByKind (as_plan d) (due_on d)
-by_kind d j e m cron lt = due_step (command_of d j).when e m lt
+by_kind d j e m cron lt = due_step d.zone (command_of d j).when e m lt
 
 pub length_of : (d : Declared) (reach : List JobReach) → IsFit d reach → IsLength (as_plan d) (due_on d) (reach_by d reach) (days_by d reach)
 length_of d reach fit = length_is (as_plan d) fit.plan (due_on d) (reach_by d reach) fit.modest

@@ -1,6 +1,8 @@
 use Rattle.std.specs.Prelude.{◌≡◌, ◌<◌, ℕ, Bool, false, ◌==◌, List, map, if◌then◌else◌, length, unwrap_or}
 use Rattle.cs_civil.specs.Calendar.{Kind}
-use Rattle.cs_schedule.specs.Times.{Times, is_due as is_time_due}
+use Rattle.cs_schedule.specs.Times.{Times}
+use Rattle.cs_zone.specs.Starts.{is_due as is_time_due}
+use Rattle.cs_zone.specs.Zone.{Zone}
 use Rattle.cs_crontab.specs.declared.table.When.{When}
 use Rattle.cs_crontab.specs.declared.table.When.TheVariants.{At, Reboot}
 use Rattle.cs_history.specs.Calm.{reach}
@@ -12,14 +14,14 @@ use Rattle.cs_windows.specs.Reach.{reach_of}
 use Rattle.cs_windows.specs.Windows.{Job}
 use Rattle.cs_windows.specs.declared.reach.JobReach.{JobReach}
 
--- whether a command is due at a minute of a day of this kind (crontab(5))
-abbrev pub is_due_on : When → Kind → ℕ → Bool
-is_due_on (At schedule) kind minute = is_time_due schedule kind minute
-is_due_on Reboot kind minute = false
+-- whether cron(8) starts a command at a minute of a day of this kind, by the clock of the zone
+abbrev pub is_due_on : Zone → When → Kind → ℕ → Bool
+is_due_on zone (At schedule) kind minute = is_time_due zone schedule kind minute
+is_due_on zone Reboot kind minute = false
 
 -- the same of a cron job of the plan
 abbrev pub due_on : Declared → ℕ → Kind → ℕ → Bool
-due_on d j kind minute = is_due_on (command_of d j).when kind minute
+due_on d j kind minute = is_due_on d.zone (command_of d j).when kind minute
 
 -- the reach of a job that waits: the one that is listed, else its declared time
 abbrev pub reach_by : Declared → List JobReach → ℕ → ℕ

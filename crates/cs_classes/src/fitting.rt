@@ -5,13 +5,14 @@ ghost use Rattle.cs_theorem.specs.Accepted.{occupied};
 ghost use Rattle.cs_theorem.specs.Faults.{stretch_length};
 ghost use Rattle.cs_civil.specs.Calendar.{Kind};
 ghost use Rattle.cs_history.specs.Plan.{Plan};
-ghost use Rattle.cs_schedule.specs.Times.{is_due};
+ghost use Rattle.cs_zone.specs.Starts.{is_due};
 ghost use Rattle.cs_windows.specs.Occupied.{job_of};
 ghost use Rattle.cs_classes.specs.Fitting.{ends_on, job_fits};
 
 use cs_civil::{DayKind, MINUTES_OF_DAY, all_kinds};
 use cs_schedule::Schedule;
 use cs_windows::Occupied;
+use cs_zone::Zone;
 
 fn minutes_of(days: u8) -> u32
     ensures { result ≡ 1440 * days }
@@ -25,26 +26,26 @@ fn ends_by(minute: u16, reach: u16, end: u32) -> bool
     u32::from(minute) + u32::from(reach) <= end
 }
 
-fn cron_ends_on(schedule: &Schedule, reach: u16, days: u8, kind: DayKind) -> bool
-    ensures { result ≡ ends_on (record { begins = is_due schedule.now; lasts = reach }) days kind }
+fn cron_ends_on(zone: Zone, schedule: &Schedule, reach: u16, days: u8, kind: DayKind) -> bool
+    ensures { result
+        ≡ ends_on (record { begins = is_due zone schedule.now; lasts = reach }) days kind }
 {
     let end = minutes_of(days);
-    schedule
-        .minutes_of(kind)
+    zone.minutes_of(schedule, kind)
         .iter()
         .all(|minute| ends_by(minute, reach, end))
 }
 
 /// A window of at most `days - 1` days and a minute ends in time wherever it begins, so that the
 /// kinds of days are searched only for longer ones.
-fn cron_fits(schedule: &Schedule, reach: u16, days: u8) -> bool
+fn cron_fits(zone: Zone, schedule: &Schedule, reach: u16, days: u8) -> bool
     requires { 1 ≤ days }
-    ensures { result ≡ job_fits days (record { begins = is_due schedule.now; lasts = reach }) }
+    ensures { result ≡ job_fits days (record { begins = is_due zone schedule.now; lasts = reach }) }
 {
     if u32::from(reach) <= minutes_of(days - 1) + 1 {
         return true;
     }
-    all_kinds().all(|kind| cron_ends_on(schedule, reach, days, kind))
+    all_kinds().all(|kind| cron_ends_on(zone, schedule, reach, days, kind))
 }
 
 fn catch_up_fits(from: u16, reach: u16, days: u8) -> bool
@@ -62,7 +63,11 @@ fn fits(job: &Occupied, days: u8) -> bool
     ensures { result ≡ job_fits days (job_of job.now) }
 {
     match job {
-        Occupied::Cron { schedule, reach } => cron_fits(schedule, *reach, days),
+        Occupied::Cron {
+            schedule,
+            zone,
+            reach,
+        } => cron_fits(**zone, schedule, *reach, days),
         Occupied::CatchUp { from, reach } => catch_up_fits(*from, *reach, days),
     }
 }

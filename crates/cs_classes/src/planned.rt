@@ -37,6 +37,7 @@ fn occupied_by<'a>(plan: &'a Plan, reaches: &[JobReach], number: usize, job: Job
     match schedule_of(plan, number) {
         Some(schedule) => Occupied::Cron {
             schedule,
+            zone: plan.zone(),
             reach: cron_reach(reaches, number, job),
         },
         None => Occupied::CatchUp {

@@ -1,38 +1,29 @@
 ghost use Rattle.std.specs.Prelude.{◌≡◌, IfOk, option_map};
 ghost use Rattle.cs_theorem.specs.Faults.{ClassNotDue, due_fault, is_due_alike};
-ghost use Rattle.cs_classes.specs.Likeness.{AreLikenesses, is_due_day, likeness_on};
+ghost use Rattle.cs_classes.specs.Likeness.{AreLikenesses};
 ghost use Rattle.cs_classes.specs.Claim.{as_certificate};
 ghost use Rattle.cs_classes.specs.Planned.{due_on};
 ghost use Rattle.cs_classes.specs.Said.{said};
 ghost use Rattle.cs_plan.specs.Plan.{as_plan};
 
 use crate::claim::Claim;
-use crate::likeness::{Likeness, is_due_day};
+use crate::likeness::{Likeness, is_job_alike};
 use crate::workers::Workers;
 use cs_civil::{DayKind, Sequence, all_kinds};
-use cs_crontab::Line;
 use cs_plan::Plan;
 use std::alloc::{AllocError, Global};
-
-fn is_job_alike(likeness: Likeness, line: &Line, kind: DayKind) -> bool
-    ensures { result ≡ likeness_on likeness (is_due_day line.now.when kind) }
-{
-    if is_due_day(line, kind) {
-        likeness.when_due
-    } else {
-        likeness.when_not
-    }
-}
 
 fn is_alike(plan: &Plan, claim: &Claim<'_>, rows: &[Sequence<Likeness>], kind: DayKind) -> bool
     requires { AreLikenesses plan.now (said claim.now) rows.now }
     ensures { result
         ≡ is_due_alike (as_plan plan.now) (due_on plan.now) (as_certificate (said claim.now)) kind }
 {
-    let class = claim.kinds().class_of(kind) as usize;
-    let row = rows[class].as_slice();
-    for (number, line) in plan.crontab().lines().iter().enumerate() {
-        if !is_job_alike(row[number], line, kind) {
+    let zone = *plan.zone();
+    let number = claim.kinds().class_of(kind) as usize;
+    let class = &claim.classes()[number];
+    let row = rows[number].as_slice();
+    for (job, line) in plan.crontab().lines().iter().enumerate() {
+        if !is_job_alike(zone, row[job], class, job as u16, line, kind) {
             return false;
         }
     }
@@ -53,7 +44,7 @@ fn first_by_rows(plan: &Plan, claim: &Claim<'_>, rows: &[Sequence<Likeness>]) ->
 }
 
 /// Returns the first kind of day, in the order of [`all_kinds`], whose class doesn't have exactly
-/// the due minutes of the plan's cron jobs on such days (`crontab(5)`). The only error is out of
+/// the due minutes of the plan's cron jobs on such days (`cron(8)`). The only error is out of
 /// memory.
 pub fn first_unlike<W: Workers>(
     workers: &W,

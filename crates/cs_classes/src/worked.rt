@@ -12,13 +12,15 @@ use cs_crontab::{Line, When};
 use cs_plan::Plan;
 use cs_schedule::MinuteSet;
 use cs_wait::{Backlog, MAX_BACKLOG};
+use cs_zone::Zone;
 use std::alloc::{AllocError, Global};
 
-fn minutes_on(line: &Line, kind: DayKind) -> MinuteSet
-    ensures { result ≡ filter (is_due_on line.now.when kind) day_minutes }
+/// The minutes of a day at which cron(8) starts a command, by the clock of the zone.
+pub(crate) fn minutes_on(zone: Zone, line: &Line, kind: DayKind) -> MinuteSet
+    ensures { result ≡ filter (is_due_on zone line.now.when kind) day_minutes }
 {
     match line.when() {
-        When::At(schedule) => schedule.minutes_of(kind),
+        When::At(schedule) => zone.minutes_of(schedule, kind),
         When::Reboot => MinuteSet::new(),
     }
 }
@@ -53,7 +55,12 @@ fn due_on(alloc: Global, plan: &Plan, kind: DayKind) -> Result<Sequence<DueList>
 {
     let mut due = Sequence::new(alloc);
     for (job, line) in plan.crontab().lines().iter().enumerate() {
-        add_list(alloc, &mut due, job as u16, &minutes_on(line, kind))?;
+        add_list(
+            alloc,
+            &mut due,
+            job as u16,
+            &minutes_on(*plan.zone(), line, kind),
+        )?;
     }
     Ok(due)
 }
@@ -123,7 +130,7 @@ fn bounds_on(
 }
 
 /// Returns what a class of version 3 stands for on days of a kind: the due minutes of each cron job
-/// (`crontab(5)`), and for each group with a job that waits the bound that begins with what is left
+/// (`cron(8)`), and for each group with a job that waits the bound that begins with what is left
 /// over and follows the arrivals, up to [`MAX_BACKLOG`](cs_wait::MAX_BACKLOG). Without a kind
 /// nothing is due. The only error is out of memory.
 pub fn worked_class(

@@ -115,7 +115,7 @@ impl Rules {
     {
         match self.plan.crontab().lines().get(usize::from(job)) {
             Some(line) => match line.when() {
-                When::At(schedule) => schedule.is_due_on(day, minute_of_day),
+                When::At(schedule) => { self.plan.zone().is_due_on(schedule, day, minute_of_day) }
                 When::Reboot => false,
             },
             None => false,

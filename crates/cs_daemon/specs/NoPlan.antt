@@ -2,6 +2,7 @@
 use Rattle.std.specs.Prelude.{pos, [], None}
 use Rattle.cs_crontab.specs.Crontab as crontab
 use Rattle.cs_anacrontab.specs.Anacrontab as anacrontab
+use Rattle.cs_zone.specs.Zone.{no_zone}
 use Rattle.cs_plan.specs.Plan.{Declared}
 
 abbrev pub no_plan : Declared
@@ -14,6 +15,8 @@ no_plan = record {
   hours = record { from = 0; to = 1 };
   pass = None;
   offset = pos 0;
+  zone = no_zone;
+  clocks = None;
   left_out = [];
   defaulted = 0;
   guessed = 0;

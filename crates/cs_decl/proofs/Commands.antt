@@ -5,7 +5,7 @@ use Rattle.std.specs.Ordering.{int_eq}
 use Rattle.std.specs.List.{list_any, count_by}
 use Rattle.std.proofs.lemmas.Bool.{ltb-false}
 use Rattle.std.proofs.lemmas.Bool.Decides.{Decides-int_eq}
-use Rattle.std.proofs.lemmas.List.Elements.{All-weaker, All-map, All-append, All-contains}
+use Rattle.std.proofs.lemmas.List.Elements.{All-map, All-append, All-contains}
 use Rattle.std.proofs.lemmas.Slice.Eq.{bytes_eq-Decides}
 use Rattle.cs_crontab.specs.Crontab.{Table as Crontab, CommandLine}
 use Rattle.cs_anacrontab.specs.Anacrontab.{Table as Anacrontab}
@@ -15,7 +15,8 @@ use Rattle.cs_plan.specs.Plan.{Declared}
 use Rattle.cs_decl.specs.Faults.{first_fault, same_number}
 use Rattle.cs_plan.specs.Answers.{Fault}
 use Rattle.cs_plan.specs.Answers.{unless}
-use Rattle.cs_decl.specs.Join.{is_named, names_line, is_unlike, has_other_schedule, has_no_line, has_other_command, is_ambiguous, number_of, cron_numbers, rest, lines_left_out, untimed, naming_faults, undeclared, mistimed, plan_of, joined}
+use Rattle.cs_decl.specs.Join.{is_named, is_unlike, has_other_schedule, has_no_line, has_other_command, is_ambiguous, number_of, cron_numbers, rest, lines_left_out, untimed, naming_faults, undeclared, mistimed, later_faults, zone_of, plan_of, joined}
+use Rattle.cs_decl.specs.TwiceStarted.{twice_started}
 use Rattle.cs_decl.specs.Lines.{names_of, TellsOf, is_told, IsLeftOut, HasNoEntry}
 use Rattle.cs_decl.specs.When.{is_told_when}
 use Rattle.cs_decl.proofs.Positions.{position_none}
@@ -30,18 +31,27 @@ no_fault x y None h = (refl, cc)
 no_fault x y (Some f) h = absurd cc
 
 module _ (c : Crontab) (a : Anacrontab) (d : Entries) (plan : Declared) (made : joined c a d ≡ Ok plan) where
-  parted : (first_fault (naming_faults c.lines a.lines d) ≡ None) × (first_fault (undeclared (rest d c).lines a.lines d ++ mistimed c.lines d) ≡ None)
+  parted : (first_fault (naming_faults c.lines a.lines d) ≡ None) × (first_fault (later_faults c a d) ≡ None)
   unfolding joined
-  parted = no_part (naming_faults c.lines a.lines d) (undeclared (rest d c).lines a.lines d ++ mistimed c.lines d) (no_fault (plan_of (rest d c) (lines_left_out d c) (untimed d c.lines) a d) plan _ made).0
+  parted = no_part (naming_faults c.lines a.lines d) (later_faults c a d) (no_fault (plan_of (rest d c) (lines_left_out d c) (untimed d c.lines) a d) plan _ made).0
+
+  later : (first_fault (undeclared (rest d c).lines a.lines d) ≡ None) × (first_fault (mistimed c.lines d ++ twice_started (zone_of d) (rest d c).lines) ≡ None)
+  later = no_part (undeclared (rest d c).lines a.lines d) (mistimed c.lines d ++ twice_started (zone_of d) (rest d c).lines) parted.1
+
+  timed : (first_fault (mistimed c.lines d) ≡ None) × (first_fault (twice_started (zone_of d) (rest d c).lines) ≡ None)
+  timed = no_part (mistimed c.lines d) (twice_started (zone_of d) (rest d c).lines) later.1
 
   pub named_right : NamesAreRight c.lines a.lines d
   named_right = names_are_right c.lines a.lines d parted.0
 
   pub declared_right : JobsAreDeclared (rest d c).lines a.lines d
-  declared_right = jobs_are_declared (rest d c).lines a.lines d (no_part (undeclared (rest d c).lines a.lines d) (mistimed c.lines d) parted.1).0
+  declared_right = jobs_are_declared (rest d c).lines a.lines d later.0
 
   pub timed_right : SchedulesAreRight c.lines d
-  timed_right = schedules_are_right c.lines d (no_part (undeclared (rest d c).lines a.lines d) (mistimed c.lines d) parted.1).1
+  timed_right = schedules_are_right c.lines d timed.0
+
+  pub none_twice : first_fault (twice_started (zone_of d) (rest d c).lines) ≡ None
+  none_twice = timed.1
 
   pub plan_is : plan_of (rest d c) (lines_left_out d c) (untimed d c.lines) a d ≡ plan
   unfolding joined

@@ -2,14 +2,14 @@
 use Rattle.std.proofs.Common.{◌≡◌, ◌⊎◌, inl, inr, List, [], ◌∷◌, ◌++◌, ℕ, zero, suc, ◌+◌, ◌<◌, ◌≤◌, Bool, true, false, not, ◌&&◌, cond, eqb, nat_lt, length, Option, Some, None, option_map, map, bytes_eq, refl, ap, sym, ◌∙◌, arith, add-zero, zero-add, ⊎_elim, true≢false}
 use Rattle.std.proofs.lemmas.Bool.Decides.{eqb_tells}
 use Rattle.std.proofs.lemmas.Bool.{and_parts, eqb-true}
-use Rattle.std.specs.Prelude.{position}
+use Rattle.std.specs.Prelude.{position, is_none, is_some}
 use Rattle.std.specs.List.{list_any}
 use Rattle.cs_plan.specs.declared.limits.TheConstants.{MAX_CAPACITY, MAX_GROUPS}
 use Rattle.cs_plan.specs.declared.fault.DeclFault.{DeclFault}
 use Rattle.cs_plan.specs.declared.fault.DeclFault.TheVariants as faults
 use Rattle.cs_plan.specs.declared.fault.Place.TheVariants.{Group, Cron, Anacron}
 use Rattle.cs_decl.specs.declared.entries.Entries.{Entries}
-use Rattle.cs_decl.specs.Faults.{is_within, same_number, first_again, is_bad_offset, is_bad_max, is_bad_weight, is_bad_default, needs_group, is_unlisted, are_bad_hours, is_bad_pass, has_bad_parts, where_true, twice_declared, bad_numbers, bad_groups, bad_times, faults_of, first_fault}
+use Rattle.cs_decl.specs.Faults.{is_within, same_number, first_again, is_bad_offset, is_bad_max, is_bad_weight, is_bad_default, needs_group, is_unlisted, are_bad_hours, is_bad_pass, has_bad_parts, clock_of, are_all_hours, where_true, twice_declared, bad_numbers, bad_groups, bad_times, bad_zone, faults_of, first_fault}
 use Rattle.cs_plan.specs.Answers.{Fault}
 use Rattle.cs_decl.specs.Law.{passes_at, comes_again, row, index, stands_at, stands, IsNoLater, IsFirst}
 use Rattle.cs_decl.proofs.Positions.{first_at, position_is}
@@ -119,11 +119,11 @@ best_step d k (Some f) r here later =
 pub other_row : (k n : ℕ) → n < k → eqb k n ≡ false
 other_row k n h = ⊎_elim (λ t. let e = t.1 in absurd (omega arith)) (λ t. t.0) (eqb_tells k n)
 
-nothing_past : (d : Entries) (k : ℕ) → 19 ≤ k → (i : ℕ) → stands_at d k i ≡ false
+nothing_past : (d : Entries) (k : ℕ) → 22 ≤ k → (i : ℕ) → stands_at d k i ≡ false
 nothing_past d k past i =
-    rw (other_row k 0 (omega arith), other_row k 1 (omega arith), other_row k 2 (omega arith), other_row k 3 (omega arith), other_row k 4 (omega arith), other_row k 5 (omega arith), other_row k 6 (omega arith), other_row k 7 (omega arith), other_row k 8 (omega arith), other_row k 9 (omega arith), other_row k 10 (omega arith), other_row k 11 (omega arith), other_row k 12 (omega arith), other_row k 13 (omega arith), other_row k 14 (omega arith), other_row k 15 (omega arith), other_row k 16 (omega arith), other_row k 17 (omega arith), other_row k 18 (omega arith)) refl
+    rw (other_row k 0 (omega arith), other_row k 1 (omega arith), other_row k 2 (omega arith), other_row k 3 (omega arith), other_row k 4 (omega arith), other_row k 5 (omega arith), other_row k 6 (omega arith), other_row k 7 (omega arith), other_row k 8 (omega arith), other_row k 9 (omega arith), other_row k 10 (omega arith), other_row k 11 (omega arith), other_row k 12 (omega arith), other_row k 13 (omega arith), other_row k 14 (omega arith), other_row k 15 (omega arith), other_row k 16 (omega arith), other_row k 17 (omega arith), other_row k 18 (omega arith), other_row k 19 (omega arith), other_row k 20 (omega arith), other_row k 21 (omega arith)) refl
 
-best_end : (d : Entries) → IsBest d 19 None
+best_end : (d : Entries) → IsBest d 22 None
 best_end d = record { some = λ f h. cc; none = λ h g s above. let f = nothing_past d (row g) above (index g) in cc }
 
 or_else-first : (o : Option Fault) (os : List (Option Fault)) → first_fault (o ∷ os) ≡ or_else o (first_fault os)
@@ -131,7 +131,7 @@ or_else-first None os = refl
 or_else-first (Some f) os = refl
 
 best : (d : Entries) → IsBest d 0 (first_fault (faults_of d))
-unfolding twice_declared bad_numbers bad_groups bad_times
+unfolding twice_declared bad_numbers bad_groups bad_times bad_zone
 best d =
     simp or_else-first
     (best_step d 0 _ _ (flag_row d 0 (is_bad_offset d.offset) faults.BadShape refl (λ j. refl))
@@ -152,7 +152,10 @@ best d =
     (best_step d 15 _ _ (flag_row d 15 (are_bad_hours d.hours) faults.BadHours refl (λ j. refl))
     (best_step d 16 _ _ (place_row d 16 (λ i. (faults.ModeOnAnacron, Some (Anacron i))) _ (λ i. refl) (λ i. refl) (least_position (λ e. e.has_mode) d.anacron))
     (best_step d 17 _ _ (flag_row d 17 (is_bad_pass d.pass) faults.BadPassMinute refl (λ j. refl))
-    (best_step d 18 _ _ (place_row d 18 (λ i. (faults.BadParts, Some (Cron i))) _ (λ i. refl) (λ i. refl) (least_position has_bad_parts d.cron)) (best_end d))))))))))))))))))))
+    (best_step d 18 _ _ (place_row d 18 (λ i. (faults.BadParts, Some (Cron i))) _ (λ i. refl) (λ i. refl) (least_position has_bad_parts d.cron))
+    (best_step d 19 _ _ (flag_row d 19 (is_some d.zone && is_none (clock_of d)) faults.BadZone refl (λ j. refl))
+    (best_step d 20 _ _ (flag_row d 20 (is_some d.zone && not (are_all_hours d.hours)) faults.HoursInZone refl (λ j. refl))
+    (best_step d 21 _ _ (flag_row d 21 (is_some d.zone && is_some d.pass) faults.PassInZone refl (λ j. refl)) (best_end d)))))))))))))))))))))))
 
 pub first_is : (d : Entries) (f : Fault) → first_fault (faults_of d) ≡ Some f → IsFirst d f
 first_is d f h = (((best d).some f h).0, λ g s. ((best d).some f h).1 g s (omega arith))

@@ -1,7 +1,8 @@
 -- Where tables and declarations have no fault.
-use Rattle.std.proofs.Common.{◌≡◌, List, [], ◌∷◌, ◌++◌, Some, None, Err, ap}
+use Rattle.std.proofs.Common.{◌≡◌, List, [], ◌∷◌, Option, Some, None, Err, refl, ap}
 use Rattle.std.specs.Prelude.{position}
 use Rattle.std.specs.List.{find}
+use Rattle.std.specs.Option.{option_or}
 use Rattle.cs_crontab.specs.Crontab.{Table as Crontab, CommandLine}
 use Rattle.cs_anacrontab.specs.Anacrontab.{Table as Anacrontab, JobLine}
 use Rattle.cs_plan.specs.declared.fault.DeclFault.TheVariants as faults
@@ -9,7 +10,7 @@ use Rattle.cs_plan.specs.declared.fault.Place.TheVariants.{LeftOut, Line}
 use Rattle.cs_decl.specs.declared.entries.Entries.{Entries}
 use Rattle.cs_decl.specs.Faults.{first_again, first_twice, same_number, first_fault, at_anacron, at_left_out}
 use Rattle.cs_plan.specs.Answers.{Fault}
-use Rattle.cs_decl.specs.Join.{has_no_line, has_no_job, has_other_command, is_ambiguous, cron_numbers, left_out_numbers, is_undeclared, is_undeclared_job, lineless, misquoted, ambiguous, named_twice, naming_faults, undeclared, has_other_schedule, mistimed, rest, lines_left_out, untimed, plan_of, joined}
+use Rattle.cs_decl.specs.Join.{has_no_line, has_no_job, has_other_command, is_ambiguous, cron_numbers, left_out_numbers, is_undeclared, is_undeclared_job, lineless, misquoted, ambiguous, named_twice, naming_faults, undeclared, has_other_schedule, mistimed, later_faults, rest, lines_left_out, untimed, plan_of, joined}
 use Rattle.cs_plan.specs.Reboot.{is_reboot, reboot_fault}
 use Rattle.cs_plan.specs.Answers.{unless}
 use Rattle.cs_decl.proofs.Validity.{no_row, no_part, mapped_none}
@@ -82,14 +83,14 @@ schedules_are_right lines d e =
       left_out = mapped_none (λ i. (faults.OtherSchedule, Some (LeftOut i))) (position (has_other_schedule lines) d.left_out) r1.0;
     }
 
-pub past_names : (c : Crontab) (a : Anacrontab) (d : Entries) → first_fault (naming_faults c.lines a.lines d) ≡ None → joined c a d ≡ unless (plan_of (rest d c) (lines_left_out d c) (untimed d c.lines) a d) (first_fault (undeclared (rest d c).lines a.lines d ++ mistimed c.lines d))
+pub first_none : (a b : Option Fault) → option_or a b ≡ None → a ≡ None
+first_none None b e = refl
+first_none (Some f) b e = absurd cc
+
+pub past_names : (c : Crontab) (a : Anacrontab) (d : Entries) → first_fault (naming_faults c.lines a.lines d) ≡ None → joined c a d ≡ unless (plan_of (rest d c) (lines_left_out d c) (untimed d c.lines) a d) (first_fault (later_faults c a d))
 unfolding joined
-past_names c a d e = ap (unless (plan_of (rest d c) (lines_left_out d c) (untimed d c.lines) a d)) (behind (naming_faults c.lines a.lines d) (undeclared (rest d c).lines a.lines d ++ mistimed c.lines d) e)
+past_names c a d e = ap (unless (plan_of (rest d c) (lines_left_out d c) (untimed d c.lines) a d)) (behind (naming_faults c.lines a.lines d) (later_faults c a d) e)
 
 pub wrong_name : (c : Crontab) (a : Anacrontab) (d : Entries) (f : Fault) → first_fault (naming_faults c.lines a.lines d) ≡ Some f → joined c a d ≡ Err f
 unfolding joined
-wrong_name c a d f e = ap (unless (plan_of (rest d c) (lines_left_out d c) (untimed d c.lines) a d)) (in_front (naming_faults c.lines a.lines d) (undeclared (rest d c).lines a.lines d ++ mistimed c.lines d) f e)
-
-pub wrong_job : (c : Crontab) (a : Anacrontab) (d : Entries) (f : Fault) → first_fault (undeclared (rest d c).lines a.lines d) ≡ Some f
-    → unless (plan_of (rest d c) (lines_left_out d c) (untimed d c.lines) a d) (first_fault (undeclared (rest d c).lines a.lines d ++ mistimed c.lines d)) ≡ Err f
-wrong_job c a d f e = ap (unless (plan_of (rest d c) (lines_left_out d c) (untimed d c.lines) a d)) (in_front (undeclared (rest d c).lines a.lines d) (mistimed c.lines d) f e)
+wrong_name c a d f e = ap (unless (plan_of (rest d c) (lines_left_out d c) (untimed d c.lines) a d)) (in_front (naming_faults c.lines a.lines d) (later_faults c a d) f e)

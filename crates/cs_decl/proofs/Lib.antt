@@ -4,6 +4,7 @@ pub mod Texts
 pub mod Repeats
 pub mod Numbers
 pub mod Order
+pub mod Jumping
 pub mod Validity
 pub mod Positions
 pub mod Once
@@ -17,4 +18,5 @@ pub mod Makeup
 pub mod Commands
 pub mod Parted
 pub mod JobTerms
+pub mod OnlyOnce
 pub mod Firsts

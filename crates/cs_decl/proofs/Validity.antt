@@ -12,7 +12,7 @@ use Rattle.cs_decl.specs.declared.entries.CronEntry.{CronEntry}
 use Rattle.cs_decl.specs.declared.entries.AnacronEntry.{AnacronEntry}
 use Rattle.cs_decl.specs.declared.entries.DefaultEntry.{DefaultEntry}
 use Rattle.cs_decl.specs.declared.entries.Entries.{Entries}
-use Rattle.cs_decl.specs.Faults.{is_within, is_bad_offset, first_twice, is_bad_max, is_bad_weight, is_bad_default, needs_group, is_unlisted, are_bad_hours, is_bad_pass, one_too_many, at_anacron, where_true, twice_declared, bad_numbers, bad_groups, bad_times, bad_parts, has_bad_parts, first_fault}
+use Rattle.cs_decl.specs.Faults.{is_within, is_bad_offset, first_twice, is_bad_max, is_bad_weight, is_bad_default, needs_group, is_unlisted, are_bad_hours, is_bad_pass, one_too_many, at_anacron, where_true, twice_declared, bad_numbers, bad_groups, bad_times, bad_parts, bad_zone, has_bad_parts, first_fault}
 use Rattle.cs_plan.specs.Answers.{Fault}
 use Rattle.cs_decl.specs.Meaning.{IsValid}
 use Rattle.cs_plan.specs.Job.{IsPossible}
@@ -63,8 +63,9 @@ facts d v =
     let a = no_row _ _ v in
     let b = no_part (twice_declared d) _ a.1 in
     let c = no_part (bad_numbers d) _ b.1 in
-    let e = no_part (bad_groups d) (bad_times d ++ bad_parts d) c.1 in
-    let t = no_part (bad_times d) (bad_parts d) e.1 in
+    let e = no_part (bad_groups d) (bad_times d ++ (bad_parts d ++ bad_zone d)) c.1 in
+    let t = no_part (bad_times d) (bad_parts d ++ bad_zone d) e.1 in
+    let p = no_part (bad_parts d) (bad_zone d) t.1 in
     let t0 = no_row _ _ b.0 in
     let n0 = no_row _ _ c.0 in
     let n1 = no_row _ _ n0.1 in
@@ -96,7 +97,7 @@ facts d v =
       few = mapped_none _ _ g3.0;
       hours = unset _ _ h0.0;
       pass = unset faults.BadPassMinute _ h2.0;
-      parts = position_none _ _ (mapped_none _ _ (no_row _ _ t.1).0);
+      parts = position_none _ _ (mapped_none _ _ (no_row _ _ p.0).0);
     }
 
 -- ---- numbers in their ranges

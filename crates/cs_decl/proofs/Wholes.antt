@@ -1,6 +1,6 @@
 -- The plan of tables and declarations without a fault is whole.
 use Rattle.std.proofs.Common.{◌≡◌, ◌≢◌, ℕ, zero, suc, ◌+◌, ◌<◌, ◌≤◌, List, [], ◌∷◌, ◌++◌, Bool, true, false, cond, map, length, get_or, Option, Some, None, refl, sym, ap, subst, ◌∙◌, arith, bytes_eq}
-use Rattle.std.specs.Prelude.{All, AllPairs}
+use Rattle.std.specs.Prelude.{All, AllPairs, unsigned_abs}
 use Rattle.std.specs.List.{list_any, find, range_with_len}
 use Rattle.std.proofs.lemmas.List.{drop_at, length-map}
 use Rattle.std.proofs.lemmas.List.Elements.{All-nil, All-cons, All-append, All-weaker}
@@ -16,15 +16,16 @@ use Rattle.cs_decl.specs.declared.entries.CronEntry.{CronEntry}
 use Rattle.cs_decl.specs.declared.entries.AnacronEntry.{AnacronEntry}
 use Rattle.cs_decl.specs.declared.entries.DefaultEntry.{DefaultEntry}
 use Rattle.cs_decl.specs.declared.entries.Entries.{Entries}
+use Rattle.cs_plan.specs.declared.limits.TheConstants.{MAX_OFFSET}
 use Rattle.cs_plan.specs.Job.{DeclaredJob, IsPossible}
 use Rattle.cs_plan.specs.Plan.{DeclaredGroup, IsWhole, IsListed, places_of}
 use Rattle.cs_decl.specs.Faults.{first_again, first_twice}
 use Rattle.cs_decl.specs.Meaning.{IsValid}
-use Rattle.cs_decl.specs.Join.{is_named, is_of_job, default_terms, cron_terms, anacron_terms, cron_job, anacron_job, jobs_from, declared_group, plan_of}
+use Rattle.cs_decl.specs.Join.{is_named, is_of_job, default_terms, cron_terms, anacron_terms, cron_job, anacron_job, jobs_from, declared_group, offset_of, plan_of}
 use Rattle.cs_plan.specs.Reboot.{is_reboot}
 use Rattle.cs_plan.proofs.Plains.{map_append, timed}
 use Rattle.cs_decl.proofs.Once.{or_none}
-use Rattle.cs_decl.proofs.Validity.{facts, few_groups, cron_possible, anacron_possible, cron_listed, anacron_listed, capacity_possible, offset_possible, hours_possible, pass_possible}
+use Rattle.cs_decl.proofs.Validity.{facts, few_groups, cron_possible, anacron_possible, cron_listed, anacron_listed, capacity_possible, hours_possible, pass_possible}
 
 -- ---- jobs of lines
 
@@ -121,9 +122,9 @@ plan_places c left_out untimed a d =
 
 -- ---- the whole plan
 
-pub whole : (c : Crontab) (left_out : List ℕ) (untimed : Option ℕ) (a : Anacrontab) (d : Entries) → IsValid d → length c.lines ≤ MAX_COMMANDS → length a.lines ≤ MAX_JOBS → All IsPossibleLine a.lines → find (λ line. is_reboot line.when) c.lines ≡ None → IsWhole (plan_of c left_out untimed a d)
+pub whole : (c : Crontab) (left_out : List ℕ) (untimed : Option ℕ) (a : Anacrontab) (d : Entries) → IsValid d → unsigned_abs (offset_of d) ≤ MAX_OFFSET → length c.lines ≤ MAX_COMMANDS → length a.lines ≤ MAX_JOBS → All IsPossibleLine a.lines → find (λ line. is_reboot line.when) c.lines ≡ None → IsWhole (plan_of c left_out untimed a d)
 unfolding plan_of
-whole c left_out untimed a d v few_commands few_lines lines no_reboot = record {
+whole c left_out untimed a d v offset few_commands few_lines lines no_reboot = record {
   few_commands = few_commands;
   few_lines = few_lines;
   timed = timed c.lines no_reboot;
@@ -144,5 +145,5 @@ whole c left_out untimed a d v few_commands few_lines lines no_reboot = record {
   capacity = capacity_possible d v;
   hours = hours_possible d v;
   pass = pass_possible d v;
-  offset = offset_possible d v;
+  offset = offset;
 }

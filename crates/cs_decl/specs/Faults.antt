@@ -1,9 +1,11 @@
 -- What is wrong with declarations: a table of faults, in the order of the answers.
-use Rattle.std.specs.Prelude.{List, [], ◌∷◌, ◌++◌, ℕ, ◌+◌, ℤ, pos, Option, None, Some, option_map, if◌then◌else◌, Bool, false, not, ◌&&◌, bytes_eq, map, length, nat_lt, unsigned_abs, int_lt, int_le, is_none, is_some, sum_by, position, ◌||◌, ◌==◌}
+use Rattle.std.specs.Prelude.{List, [], ◌∷◌, ◌++◌, ℕ, ◌+◌, ℤ, pos, Option, None, Some, option_map, option_and_then, if◌then◌else◌, Bool, false, not, ◌&&◌, bytes_eq, map, length, nat_lt, unsigned_abs, int_lt, int_le, is_none, is_some, sum_by, position, ◌||◌, ◌==◌}
 use Rattle.std.specs.Ordering.{int_eq}
 use Rattle.std.specs.List.{list_any}
 use Rattle.cs_history.specs.Plan.{takes}
 use Rattle.cs_civil.specs.declared.minute.TheConstants.{MINUTES_OF_DAY}
+use Rattle.cs_rule.specs.Clocks.{clock_in}
+use Rattle.cs_rule.specs.Rule.{Clock}
 use Rattle.cs_plan.specs.declared.limits.TheConstants.{MAX_MINUTES, MAX_WEIGHT, MAX_CAPACITY, MAX_GROUPS, MAX_OFFSET}
 use Rattle.cs_plan.specs.declared.fault.DeclFault.{DeclFault}
 use Rattle.cs_plan.specs.declared.fault.DeclFault.TheVariants as faults
@@ -81,6 +83,14 @@ abbrev pub is_bad_pass : Option ℤ → Bool
 is_bad_pass None = false
 is_bad_pass (Some minute) = not (int_le (pos 0) minute && int_lt minute (pos MINUTES_OF_DAY))
 
+-- the clock of the zone, if there is one and its rule is of this profile
+abbrev pub clock_of : Entries → Option Clock
+clock_of d = option_and_then clock_in d.zone
+
+-- all hours are catch-up hours
+abbrev pub are_all_hours : ℤ × ℤ → Bool
+are_all_hours h = int_eq h.0 (pos 0) && int_eq h.1 (pos MINUTES_OF_DAY)
+
 -- the place of the first group above the limit
 abbrev pub one_too_many : List GroupEntry → Option ℕ
 one_too_many groups = if nat_lt MAX_GROUPS (length groups) then Some MAX_GROUPS else None
@@ -140,11 +150,19 @@ bad_times d =
 abbrev pub bad_parts : Entries → List (Option Fault)
 bad_parts d = at_cron faults.BadParts (position has_bad_parts d.cron) ∷ []
 
+-- the rule of the zone, and what may not stand beside a zone
+unfoldable pub bad_zone : Entries → List (Option Fault)
+bad_zone d =
+    where_true faults.BadZone (is_some d.zone && is_none (clock_of d))
+    ∷ where_true faults.HoursInZone (is_some d.zone && not (are_all_hours d.hours))
+    ∷ where_true faults.PassInZone (is_some d.zone && is_some d.pass)
+    ∷ []
+
 -- all of them: by number, and for one number in the order groups, cron, anacron, default
 abbrev pub faults_of : Entries → List (Option Fault)
 faults_of d = where_true faults.BadShape (is_bad_offset d.offset)
     ∷ (twice_declared d
-    ++ (bad_numbers d ++ (bad_groups d ++ (bad_times d ++ bad_parts d))))
+    ++ (bad_numbers d ++ (bad_groups d ++ (bad_times d ++ (bad_parts d ++ bad_zone d)))))
 
 abbrev pub first_fault : List (Option Fault) → Option Fault
 first_fault [] = None

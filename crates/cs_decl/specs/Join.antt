@@ -1,11 +1,13 @@
 -- From two tables and declarations to a plan.
-use Rattle.std.specs.Prelude.{ℕ, ℤ, ◌+◌, pos, unsigned_abs, List, [], ◌∷◌, ◌++◌, map, Option, None, Some, option_map, option_and_then, is_none, is_some, Bool, false, not, ◌&&◌, ◌||◌, nat_lt, bytes_eq, Result, position}
+use Rattle.std.specs.Prelude.{ℕ, ℤ, ◌+◌, pos, unsigned_abs, List, [], ◌∷◌, ◌++◌, map, Option, None, Some, option_map, option_and_then, is_none, is_some, unwrap_or, Bool, false, not, ◌&&◌, ◌||◌, nat_lt, bytes_eq, Result, position}
 use Rattle.std.specs.Ordering.{int_eq}
 use Rattle.std.specs.List.{list_any, find, filter, count_by}
 use Rattle.cs_crontab.specs.Crontab.{Table as Crontab, CommandLine}
 use Rattle.cs_crontab.specs.declared.table.When.{When}
 use Rattle.cs_anacrontab.specs.Anacrontab.{Table as Anacrontab, JobLine}
 use Rattle.cs_history.specs.declared.mode.Mode.TheVariants.{Plain}
+use Rattle.cs_zone.specs.Zone.{Zone, no_zone}
+use Rattle.cs_rule.specs.Rule.{Clock}
 use Rattle.cs_plan.specs.declared.fault.DeclFault.{DeclFault}
 use Rattle.cs_plan.specs.declared.fault.DeclFault.TheVariants as faults
 use Rattle.cs_plan.specs.declared.fault.Place.TheVariants.{Job}
@@ -17,11 +19,13 @@ use Rattle.cs_decl.specs.declared.entries.DefaultEntry.{DefaultEntry}
 use Rattle.cs_decl.specs.declared.entries.Entries.{Entries}
 use Rattle.cs_plan.specs.Job.{DeclaredJob}
 use Rattle.cs_plan.specs.Plan.{Declared, DeclaredGroup}
+use Rattle.cs_plan.specs.declared.clocks.ClockNames.{ClockNames}
 use Rattle.cs_civil.specs.Hours.{CatchUpHours}
-use Rattle.cs_decl.specs.Faults.{same_number, first_again, first_twice, at_cron, at_anacron, at_left_out, first_fault}
+use Rattle.cs_decl.specs.Faults.{same_number, first_again, first_twice, at_cron, at_anacron, at_left_out, first_fault, clock_of}
 use Rattle.cs_plan.specs.Answers.{Fault}
 use Rattle.cs_plan.specs.Answers.{unless}
 use Rattle.cs_decl.specs.When.{is_told_when}
+use Rattle.cs_decl.specs.TwiceStarted.{twice_started}
 use Rattle.cs_plan.specs.Reboot.{is_reboot, at_line, reboot_fault}
 
 -- ---- names and lines
@@ -103,6 +107,19 @@ is_undeclared d line = is_none d.default && (not (is_reboot line.when) && not (h
 abbrev pub is_undeclared_job : Entries → JobLine → Bool
 is_undeclared_job d line = is_none d.default && not (has_job_entry d line)
 
+-- ---- the zone
+
+-- the zone, seen from the plan's clock
+abbrev pub zone_of : Entries → Zone
+zone_of d = unwrap_or (option_map (λ c. c.zone) (clock_of d)) no_zone
+
+-- the offset of the plan's clock: that of the zone, or else the declared one
+abbrev pub offset_of : Entries → ℤ
+offset_of d = unwrap_or (option_map (λ c. c.offset) (clock_of d)) d.offset
+
+abbrev pub names_of_clocks : Clock → ClockNames
+names_of_clocks c = record { plan = c.plan_name; other = c.other_name }
+
 -- ---- the table of faults
 
 abbrev pub at_job : DeclFault → Option JobLine → Option Fault
@@ -154,11 +171,16 @@ abbrev pub naming_faults : List CommandLine → List JobLine → Entries → Lis
 naming_faults lines jobs d =
     lineless lines jobs d ++ (misquoted lines d ++ (ambiguous lines d ++ named_twice lines d))
 
+-- of lines that aren't left out, and of the schedules that entries give
+abbrev pub later_faults : Crontab → Anacrontab → Entries → List (Option Fault)
+later_faults crontab anacrontab d =
+    undeclared (rest d crontab).lines anacrontab.lines d
+    ++ (mistimed crontab.lines d ++ twice_started (zone_of d) (rest d crontab).lines)
+
 -- entries name lines of the whole table; jobs are those of the lines that aren't left out
 abbrev pub join_faults : Crontab → Anacrontab → Entries → List (Option Fault)
 join_faults crontab anacrontab d =
-    naming_faults crontab.lines anacrontab.lines d
-    ++ (undeclared (rest d crontab).lines anacrontab.lines d ++ mistimed crontab.lines d)
+    naming_faults crontab.lines anacrontab.lines d ++ later_faults crontab anacrontab d
 
 -- ---- the plan
 
@@ -249,7 +271,9 @@ plan_of crontab left_out untimed anacrontab d = record {
   capacity = unsigned_abs d.capacity;
   hours = declared_hours d.hours;
   pass = option_map unsigned_abs d.pass;
-  offset = d.offset;
+  offset = offset_of d;
+  zone = zone_of d;
+  clocks = option_map names_of_clocks (clock_of d);
   left_out = left_out;
   defaulted = defaulted d crontab.lines anacrontab.lines;
   guessed = guessed d;

@@ -1,12 +1,12 @@
 -- Which fault of declarations is returned: the smallest number, and the first place with it.
-use Rattle.std.specs.Prelude.{◌≡◌, List, [], ◌∷◌, ◌++◌, ℕ, zero, suc, ◌<◌, ◌≤◌, ◌⊎◌, Bool, true, false, not, ◌&&◌, ◌==◌, Option, Some, None, map, length, nat_lt, bytes_eq, if◌then◌else◌}
+use Rattle.std.specs.Prelude.{◌≡◌, List, [], ◌∷◌, ◌++◌, ℕ, zero, suc, ◌<◌, ◌≤◌, ◌⊎◌, Bool, true, false, not, ◌&&◌, ◌==◌, Option, Some, None, is_some, is_none, map, length, nat_lt, bytes_eq, if◌then◌else◌}
 use Rattle.std.specs.List.{list_any}
 use Rattle.cs_plan.specs.declared.limits.TheConstants.{MAX_CAPACITY, MAX_GROUPS}
 use Rattle.cs_plan.specs.declared.fault.DeclFault.TheVariants as faults
 use Rattle.cs_plan.specs.declared.fault.Place.{Place}
 use Rattle.cs_plan.specs.declared.fault.Place.TheVariants.{Group, Cron, Anacron}
 use Rattle.cs_decl.specs.declared.entries.Entries.{Entries}
-use Rattle.cs_decl.specs.Faults.{is_within, same_number, is_bad_offset, is_bad_max, is_bad_weight, is_bad_default, needs_group, is_unlisted, are_bad_hours, is_bad_pass, has_bad_parts}
+use Rattle.cs_decl.specs.Faults.{is_within, same_number, is_bad_offset, is_bad_max, is_bad_weight, is_bad_default, needs_group, is_unlisted, are_bad_hours, is_bad_pass, has_bad_parts, clock_of, are_all_hours}
 use Rattle.cs_plan.specs.Answers.{Fault}
 
 -- the item at a place is there, and passes
@@ -42,7 +42,10 @@ row (faults.BadHours, None) = 15
 row (faults.ModeOnAnacron, Some (Anacron i)) = 16
 row (faults.BadPassMinute, None) = 17
 row (faults.BadParts, Some (Cron i)) = 18
-row _ = 19
+row (faults.BadZone, None) = 19
+row (faults.HoursInZone, None) = 20
+row (faults.PassInZone, None) = 21
+row _ = 22
 
 abbrev pub place_index : Option Place → ℕ
 place_index (Some (Group i)) = i
@@ -75,6 +78,9 @@ stands_at d k i =
     else if k == 16 then passes_at (λ e. e.has_mode) d.anacron i
     else if k == 17 then is_bad_pass d.pass
     else if k == 18 then passes_at has_bad_parts d.cron i
+    else if k == 19 then is_some d.zone && is_none (clock_of d)
+    else if k == 20 then is_some d.zone && not (are_all_hours d.hours)
+    else if k == 21 then is_some d.zone && is_some d.pass
     else false
 
 abbrev pub stands : Entries → Fault → Bool

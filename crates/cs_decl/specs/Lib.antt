@@ -4,6 +4,7 @@ pub mod NameSet
 pub mod Doubled
 pub mod When
 pub mod Meaning
+pub mod TwiceStarted
 pub mod Join
 pub mod Lines
 pub mod Law

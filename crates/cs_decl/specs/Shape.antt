@@ -1,5 +1,5 @@
 -- The shape of declarations, member by member: what a JSON value declares, or BadShape.
-use Rattle.std.specs.Prelude.{List, [], ◌∷◌, ℕ, pos, Option, None, Some, option_and_then, is_some, if◌then◌else◌, Bool, false, ◌||◌, bytes_eq, codes, Result, Ok, ⊤}
+use Rattle.std.specs.Prelude.{List, [], ◌∷◌, ℕ, pos, Option, None, Some, option_and_then, is_some, if◌then◌else◌, Bool, false, not, ◌&&◌, ◌||◌, bytes_eq, codes, Result, Ok, ⊤}
 use Rattle.serde_json.specs.Data.{Data}
 use Rattle.serde_json.specs.Find.{as_str, get}
 use Rattle.cs_json.specs.Gives.{◌>>=◌}
@@ -59,7 +59,8 @@ is_left_out_member = is_among
 unfoldable pub is_member : List ℕ → Bool
 is_member = is_among
     (codes "anacron" ∷ codes "capacity" ∷ codes "cron" ∷ codes "default" ∷ codes "groups"
-    ∷ codes "hours" ∷ codes "left_out" ∷ codes "note" ∷ codes "offset" ∷ codes "pass" ∷ [])
+    ∷ codes "hours" ∷ codes "left_out" ∷ codes "note" ∷ codes "offset" ∷ codes "pass"
+    ∷ codes "zone" ∷ [])
 
 -- a note is for people: it has to be a text, and nothing is read from it
 abbrev pub note_of : Data → Result ⊤ JsonFault
@@ -154,17 +155,21 @@ left_out_of d = do
   note ← note_of d
   line_name_of d
 
--- only the capacity has to be there; by default the offset is 0, and all hours are catch-up hours
+-- only the capacity has to be there; by default the offset is 0, and all hours are catch-up hours;
+-- there may be an offset or a zone
 unfoldable pub terms_of : Data → Result Terms JsonFault
 terms_of d = do
+  one ← check (not (is_some (get (codes "zone") d) && is_some (get (codes "offset") d)))
   capacity ← member_as whole_number (codes "capacity") d
   offset ← member_or_default whole_number (pos 0) (codes "offset") d
+  zone ← member_or_none text (codes "zone") d
   hours ← member_or_default (pair_as whole_number whole_number) (pos 0, pos 1440) (codes "hours") d
   pass ← member_or_none whole_number (codes "pass") d
   default ← member_or_none default_of (codes "default") d
   Ok (record {
     capacity = capacity;
     offset = offset;
+    zone = zone;
     hours = hours;
     pass = pass;
     default = default;
@@ -183,6 +188,7 @@ entries_of d = do
   Ok (record {
     capacity = terms.capacity;
     offset = terms.offset;
+    zone = terms.zone;
     hours = terms.hours;
     pass = terms.pass;
     default = terms.default;

@@ -83,7 +83,9 @@ fn entries_in(alloc: Global, value: &Value) -> Result<Entries, DeclError>
 /// Reads declarations, or returns their fault with the smallest number; among several with that
 /// number, that of the groups, then of cron, then of anacron, then of the default.
 ///
-/// [`join`](crate::join) checks that the lines and identifiers exist. Memory may run out.
+/// [`join`](crate::join) checks that the lines and identifiers exist. A zone's rule has to be one of
+/// [`cs_rule`], and neither an offset nor catch-up hours nor a pass minute may stand beside it.
+/// Memory may run out.
 #[tactic(auto, unfolding(crate::specs::Meaning::declared_by))]
 pub fn read_declarations(alloc: Global, bytes: &[u8]) -> Result<Declarations, DeclError>
     ensures { Answers (λ d. d) (declared_by bytes.now) result }

@@ -85,8 +85,10 @@ pub struct DefaultEntry {
 pub struct Entries {
     /// The most that running jobs may weigh together.
     pub capacity: i128,
-    /// Minutes by which the operator's clock is ahead of UTC.
+    /// Minutes by which the operator's clock is ahead of UTC; 0 beside a zone.
     pub offset: i128,
+    /// The rule of the operator's zone (POSIX, TZ), if declared.
+    pub zone: Option<Bytes>,
     /// The first minute of day of the catch-up hours, and the first after them.
     pub hours: (i128, i128),
     /// The minute of each day at which a catch-up pass begins, if declared.

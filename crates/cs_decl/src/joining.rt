@@ -1,18 +1,20 @@
-ghost use Rattle.std.specs.Prelude.{◌≡◌, ◌≤◌, ◌++◌, option_map, None, IfOk};
+ghost use Rattle.std.specs.Prelude.{◌≡◌, option_map, None, IfOk};
 ghost use Rattle.std.specs.Prelude.{unsigned_abs};
 ghost use Rattle.std.specs.List.{find};
 ghost use Rattle.cs_decl.specs.Faults.{first_fault};
 ghost use Rattle.cs_decl.specs.Meaning.{IsValid};
 ghost use Rattle.cs_plan.specs.Answers.{Answers, unless};
-ghost use Rattle.cs_decl.specs.Join.{undeclared, rest, lines_left_out, declared_hours};
+ghost use Rattle.cs_decl.specs.Join.{later_faults, rest, lines_left_out, declared_hours};
 ghost use Rattle.cs_plan.specs.Reboot.{is_reboot};
-ghost use Rattle.cs_decl.specs.Join.{mistimed, plan_of, joined, untimed};
+ghost use Rattle.cs_decl.specs.Join.{plan_of, joined, untimed};
 
+use crate::clock::{names_of_clocks, offset_of, zone_of};
 use crate::declarations::Declarations;
 use crate::entries::Entries;
 use crate::join_rows::{mistimed_fault, naming_fault, undeclared_fault};
 use crate::lookups::{defaulted, guessed, lines_left_out, untimed};
 use crate::terms::{groups_of, jobs_of, small, smaller};
+use crate::twice_started::twice_started;
 use cs_anacrontab::Anacrontab;
 use cs_civil::{Hours, Sequence};
 use cs_crontab::Crontab;
@@ -48,14 +50,6 @@ fn pass_of(entries: &Entries) -> Option<u16>
     }
 }
 
-#[tactic(auto, using(crate::proofs::Validity::offset_possible))]
-fn offset_of(entries: &Entries) -> i16
-    requires { IsValid entries.now }
-    ensures { result ≡ entries.now.offset }
-{
-    entries.offset as i16
-}
-
 #[tactic(auto, unfolding(crate::specs::Join::plan_of))]
 fn plan_of(
     alloc: Global,
@@ -72,6 +66,7 @@ fn plan_of(
     let jobs = jobs_of(alloc, crontab.lines(), anacrontab.lines(), entries)?;
     let groups = groups_of(alloc, entries.groups.as_slice())?;
     let defaulted = defaulted(entries, crontab.lines(), anacrontab.lines());
+    let clocks = names_of_clocks(alloc, entries)?;
     let doubled = copy_name(alloc, &entries.doubled)?;
     Ok(Plan::new(
         crontab,
@@ -82,6 +77,8 @@ fn plan_of(
         hours_of(entries),
         pass_of(entries),
         offset_of(entries),
+        zone_of(entries),
+        clocks,
         left_out,
         defaulted,
         guessed(entries),
@@ -103,7 +100,7 @@ fn rest_of(
     Ok((crontab.without(left_out.as_slice()), left_out))
 }
 
-#[tactic(auto, using(crate::proofs::Order::in_front, crate::proofs::Order::behind))]
+#[tactic(auto, using(crate::proofs::Order::one_or_other))]
 fn joined_rest(
     alloc: Global,
     crontab: Crontab,
@@ -113,17 +110,16 @@ fn joined_rest(
     requires { IsValid entries.now }
     ensures { Answers (λ plan. plan)
         (unless (plan_of (rest entries.now crontab) (lines_left_out entries.now crontab)
-        (untimed entries.now crontab.lines) anacrontab entries.now) (first_fault (undeclared (rest entries.now crontab).lines anacrontab.lines
-        entries.now ++ mistimed crontab.lines entries.now))) result }
+        (untimed entries.now crontab.lines) anacrontab entries.now)
+        (first_fault (later_faults crontab anacrontab entries.now))) result }
 {
     let late = mistimed_fault(crontab.lines(), entries);
     let untimed = untimed(entries, crontab.lines());
     let (rest, left_out) = rest_of(alloc, crontab, entries)?;
-    match undeclared_fault(alloc, rest.lines(), anacrontab.lines(), entries)? {
-        None => match late {
-            None => Ok(plan_of(alloc, rest, left_out, untimed, anacrontab, entries)?),
-            Some((fault, place)) => Err(DeclError::At { fault, place }),
-        },
+    let twice = twice_started(alloc, entries, rest.lines())?;
+    let undeclared = undeclared_fault(alloc, rest.lines(), anacrontab.lines(), entries)?;
+    match undeclared.or(late).or(twice) {
+        None => Ok(plan_of(alloc, rest, left_out, untimed, anacrontab, entries)?),
         Some((fault, place)) => Err(DeclError::At { fault, place }),
     }
 }
@@ -137,8 +133,10 @@ fn joined_rest(
 /// [`TwiceDeclared`](DeclFault::TwiceDeclared) if its line has an entry already. Then come faults
 /// of jobs that aren't left out: [`Undeclared`](DeclFault::Undeclared) if one has no entry and
 /// there is no default; [`RebootLine`](DeclFault::RebootLine) if one is an `@reboot`, declared or
-/// not. Last comes [`OtherSchedule`](DeclFault::OtherSchedule), if the line of an entry of `cron`
-/// or `left_out` has another schedule. Memory may run out.
+/// not. Then comes [`OtherSchedule`](DeclFault::OtherSchedule), if the line of an entry of `cron`
+/// or `left_out` has another schedule. Last comes [`StartsTwice`](DeclFault::StartsTwice), if
+/// cron(8) starts a line that isn't left out more than once in a minute by the clock of the zone.
+/// Memory may run out.
 #[tactic(auto, unfolding(crate::specs::Join::joined))]
 pub fn join(
     alloc: Global,

@@ -16,6 +16,7 @@ ghost use Rattle.cs_decl.specs.Law.{IsFirst, stands};
 ghost use Rattle.cs_decl.specs.Lines.{TellsOf, IsLeftOut, HasNoEntry, AreParted, IsDeclared, IsUntimed};
 ghost use Rattle.cs_decl.specs.Lines.{is_told, names_of};
 ghost use Rattle.cs_decl.specs.Meaning.{IsValid};
+ghost use Rattle.cs_decl.specs.TwiceStarted.{StartsOnce};
 ghost use Rattle.cs_decl.specs.Parts.{AreItsParts};
 ghost use Rattle.cs_plan.specs.Plan.{Declared, places_of, command_of, job_at, crons};
 
@@ -64,7 +65,8 @@ pub fn left_out_lines_have_no_entry()
 
 /// Lemma. If a plan is made, each line is in it, or an entry of `left_out` names it and the plan
 /// lists its number, in order of line. Each line of the plan has one job, which an entry that names
-/// it declares, or else the default. Without a default no job has it.
+/// it declares, or else the default. Without a default no job has it. Each line of the plan starts
+/// at most once in a minute.
 pub fn each_line_has_its_job()
     ensures lines { (table : Table) (jobs : JobTable) (d : Entries) (plan : Declared)
         → joined table jobs d ≡ Ok plan
@@ -78,6 +80,9 @@ pub fn each_line_has_its_job()
         → IsDeclared d (command_of plan j) (job_at plan j) }
     ensures defaulted { (table : Table) (jobs : JobTable) (d : Entries) (plan : Declared)
         → joined table jobs d ≡ Ok plan → d.default ≡ None → plan.defaulted ≡ 0 }
+    ensures once { (table : Table) (jobs : JobTable) (d : Entries) (plan : Declared)
+        → joined table jobs d ≡ Ok plan
+        → All (λ line. StartsOnce plan.zone line.when) plan.crontab.lines }
 {}
 
 /// Lemma. If a plan is made, it counts no guess exactly if no entry is one. It names a line whose

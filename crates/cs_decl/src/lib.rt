@@ -1,9 +1,11 @@
 //! Reads declarations of jobs, and joins them with a crontab and an anacrontab to a plan.
 #![tactic(auto)]
 
+mod clock;
 mod declarations;
 mod doubled;
 mod entries;
+mod forward;
 mod join_rows;
 mod joining;
 mod laws;
@@ -15,6 +17,7 @@ mod reading;
 mod rows;
 mod terms;
 mod twice;
+mod twice_started;
 mod when;
 
 pub use cs_plan::{
@@ -32,4 +35,5 @@ pub use laws::{
     guesses_and_untimed_lines_are_told, left_out_lines_have_no_entry, parts_make_up_the_whole,
 };
 pub use naming::is_named;
+pub use twice_started::line_started_twice;
 pub use when::{is_same_when, is_told_when, named_when};

@@ -329,7 +329,7 @@ fn whole_object(value: &Value) -> Result<(), Misread>
         value,
         [
             "anacron", "capacity", "cron", "default", "groups", "hours", "left_out", "note",
-            "offset", "pass",
+            "offset", "pass", "zone",
         ]
         .as_slice(),
     )
@@ -339,18 +339,24 @@ fn whole_object(value: &Value) -> Result<(), Misread>
 struct Terms {
     capacity: i128,
     offset: i128,
+    zone: Option<Bytes>,
     hours: (i128, i128),
     pass: Option<i128>,
     default: Option<DefaultEntry>,
 }
 
+/// `BadShape` if there are both a zone and an offset.
 #[tactic(auto, unfolding(crate::specs::Shape::terms_of))]
 fn terms_of(alloc: Global, value: &Value) -> Result<Terms, Misread>
     ensures { Gives (λ t. t) result (terms_of (view value.now)) }
 {
+    if value.get("zone").is_some() && value.get("offset").is_some() {
+        return Err(BAD_SHAPE);
+    }
     Ok(Terms {
         capacity: member(alloc, value, "capacity")?,
         offset: member_or(alloc, value, "offset", 0)?,
+        zone: text_if_there(alloc, value, "zone")?,
         hours: member_or(alloc, value, "hours", (0, 1_440))?,
         pass: member_if_there(alloc, value, "pass")?,
         default: member_if_there(alloc, value, "default")?,
@@ -372,6 +378,7 @@ impl FromJson for Entries {
         Ok(Entries {
             capacity: terms.capacity,
             offset: terms.offset,
+            zone: terms.zone,
             hours: terms.hours,
             pass: terms.pass,
             default: terms.default,

@@ -1,10 +1,12 @@
 //! Answers the table of faults, row after row.
-ghost use Rattle.std.specs.Prelude.{◌≡◌, ◌++◌, IfOk, Some, position};
+ghost use Rattle.std.specs.Prelude.{◌≡◌, ◌++◌, ◌&&◌, IfOk, Some, position, is_none, is_some};
 ghost use Rattle.cs_decl.specs.Faults.{is_within, is_bad_offset, is_bad_max, is_bad_weight};
 ghost use Rattle.cs_decl.specs.Faults.{is_bad_default, needs_group, are_bad_hours};
 ghost use Rattle.cs_decl.specs.Faults.{is_bad_pass, first_fault, twice_declared, bad_numbers};
-ghost use Rattle.cs_decl.specs.Faults.{bad_groups, bad_parts, bad_times, faults_of};
+ghost use Rattle.cs_decl.specs.Faults.{are_all_hours, bad_groups, bad_parts, bad_times, bad_zone};
+ghost use Rattle.cs_decl.specs.Faults.{faults_of};
 
+use crate::clock::clock_of;
 use crate::entries::{AnacronEntry, CronEntry, DefaultEntry, Entries};
 use crate::names::{unlisted_anacron, unlisted_cron};
 use crate::parts::first_with_bad_parts;
@@ -204,15 +206,44 @@ fn bad_parts(alloc: Global, entries: &Entries) -> Result<Option<Found>, AllocErr
     }
 }
 
-#[tactic(auto, using(crate::proofs::Order::first_bad_time, crate::proofs::Order::past_times))]
-fn bad_times_or_parts(alloc: Global, entries: &Entries) -> Result<Option<Found>, AllocError>
+fn are_all_hours(hours: (i128, i128)) -> bool
+    ensures { result ≡ are_all_hours hours }
+{
+    hours.0 == 0 && hours.1 == i128::from(MINUTES_OF_DAY)
+}
+
+#[tactic(auto, unfolding(crate::specs::Faults::bad_zone))]
+fn bad_zone(entries: &Entries) -> Option<Found>
+    ensures { result ≡ first_fault (bad_zone entries.now) }
+{
+    if entries.zone.is_none() {
+        return None;
+    }
+    if clock_of(entries).is_none() {
+        return Some((DeclFault::BadZone, None));
+    }
+    if !are_all_hours(entries.hours) {
+        return Some((DeclFault::HoursInZone, None));
+    }
+    if entries.pass.is_some() {
+        return Some((DeclFault::PassInZone, None));
+    }
+    None
+}
+
+#[tactic(auto, using(crate::proofs::Order::in_front, crate::proofs::Order::behind))]
+fn bad_times_or_later(alloc: Global, entries: &Entries) -> Result<Option<Found>, AllocError>
     ensures { IfOk result
-        (λ f. f ≡ first_fault (bad_times entries.now ++ bad_parts entries.now)) }
+        (λ f. f ≡ first_fault (bad_times entries.now
+        ++ (bad_parts entries.now ++ bad_zone entries.now))) }
 {
     if let Some(found) = bad_times(entries) {
         return Ok(Some(found));
     }
-    bad_parts(alloc, entries)
+    if let Some(found) = bad_parts(alloc, entries)? {
+        return Ok(Some(found));
+    }
+    Ok(bad_zone(entries))
 }
 
 #[tactic(auto, using(crate::proofs::Order::first_twice_declared, crate::proofs::Order::first_bad_number, crate::proofs::Order::first_bad_group, crate::proofs::Order::past_groups))]
@@ -231,5 +262,5 @@ pub(crate) fn fault_of(alloc: Global, entries: &Entries) -> Result<Option<Found>
     if let Some(found) = bad_groups(alloc, entries)? {
         return Ok(Some(found));
     }
-    bad_times_or_parts(alloc, entries)
+    bad_times_or_later(alloc, entries)
 }

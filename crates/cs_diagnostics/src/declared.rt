@@ -5,6 +5,7 @@ use crate::names::{nearest, quoted};
 use crate::outline::trimmed;
 use crate::shape::{find_in_entry, has_meant};
 use crate::span::Span;
+use crate::zone::find_in_zone;
 use cs_plan::{DeclFault, MAX_GROUPS, MAX_MINUTES};
 use indexmap::IndexMap;
 use serde_json::Value;
@@ -122,6 +123,7 @@ impl<'v> Declarations<'v> {
             }
         }
         self.find_in_groups(findings)?;
+        find_in_zone(findings, &self.whole)?;
         let entries = self.entries.as_slice();
         find_twice(findings, bytes, entries, (Kind::Group, "name", "group"))?;
         find_twice(

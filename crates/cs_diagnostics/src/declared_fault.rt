@@ -67,6 +67,9 @@ fn advice(fault: DeclFault, kind: Kind, has_line: bool, has_jobs: bool) -> &'sta
             "the line has other parts: correct them, as 'cronsafe draft --update' does"
         }
         (DeclFault::RebootLine, _) => "put this line of the crontab into \"left_out\"",
+        (DeclFault::StartsTwice, _) => {
+            "write this line of the crontab so that it is due once, such as 0 3 for 0 2,3"
+        }
         (DeclFault::Undeclared, Kind::Anacron) => "add an entry for this job",
         (DeclFault::Undeclared, _) => "add an entry for this line of the crontab",
         _ => "see 'cronsafe explain'",

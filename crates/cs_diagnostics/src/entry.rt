@@ -29,7 +29,7 @@ const TEXTS: [[&str; 4]; 7] = [
         "",
         "",
         "the declarations",
-        "anacron capacity cron default groups hours left_out note offset pass",
+        "anacron capacity cron default groups hours left_out note offset pass zone",
     ],
     ["default", "", "\"default\"", "max note weight"],
     [

@@ -17,6 +17,7 @@ mod render;
 mod shape;
 mod span;
 mod told;
+mod zone;
 
 pub use declared::{Declarations, parts_in};
 pub use declared_fault::declared_lines;

@@ -40,6 +40,17 @@ fn are_hours(value: &Value) -> Option<bool> {
     Some(0 <= from && from < to && to <= i128::from(MINUTES_OF_DAY))
 }
 
+/// Whether these are the minutes of a whole day.
+pub(crate) fn are_all_hours(value: &Value) -> bool {
+    let Some(hours) = value.as_array() else {
+        return false;
+    };
+    match hours.as_slice() {
+        [first, last] => whole(first) == Some(0) && whole(last) == Some(i128::from(MINUTES_OF_DAY)),
+        _ => false,
+    }
+}
+
 const WHOLE: &str = "a whole number: no quotes, point or exponent";
 
 const TEXT: &str = "text, in double quotes";
@@ -72,7 +83,7 @@ fn find_in_value(
         "exclusive" | "guess" => (value.is_boolean(), "true or false"),
         "hours" => (are_hours(value).is_some(), HOURS),
         "mode" => (value.is_string(), MODE),
-        "command" | "group" | "id" | "name" | "note" | "when" => (value.is_string(), TEXT),
+        "command" | "group" | "id" | "name" | "note" | "when" | "zone" => (value.is_string(), TEXT),
         _ => (whole(value).is_some(), WHOLE),
     };
     if !is_so {

@@ -2,7 +2,8 @@
 use Rattle.std.specs.Prelude.{◌≡◌, ℕ, ◌+◌, ◌-◌, ◌==◌, ◌^◌, min, Bool, true, [], ◌∷◌, Option, None, Some, slice_get}
 use Rattle.std.specs.List.{list_any}
 use Rattle.cs_civil.specs.Calendar.{Kind, four_days}
-use Rattle.cs_schedule.specs.Times.{is_due}
+use Rattle.cs_zone.specs.Starts.{is_due}
+use Rattle.cs_zone.specs.Zone.{no_zone}
 use Rattle.cs_crontab.specs.Crontab.{CommandLine}
 use Rattle.cs_crontab.specs.declared.table.When.{When}
 use Rattle.cs_crontab.specs.declared.table.When.TheVariants.{At, Reboot}
@@ -11,9 +12,10 @@ use Rattle.cs_windows.specs.Window.{touches}
 use Rattle.cs_windows.specs.Windows.{Job, windows_on}
 use Rattle.cs_diff.specs.declared.meeting.Meeting.{Meeting}
 
--- from each due minute on (crontab(5)); none for `@reboot`
+-- from each minute on that the fields list (crontab(5)), without changes of the zone's clock; none
+-- for `@reboot`
 abbrev pub windows_at : When → ℕ → Job Kind
-windows_at (At times) max = record { begins = is_due times; lasts = max }
+windows_at (At times) max = record { begins = is_due no_zone times; lasts = max }
 windows_at Reboot max = record { begins = λ day minute. minute == 1_440; lasts = 0 }
 
 -- each day from the first catch-up minute to the end of a run that starts in the last one

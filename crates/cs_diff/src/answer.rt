@@ -31,6 +31,17 @@ fn entries_of(declared: &Result<Declarations, DeclError>) -> Result<&[CronEntry]
     }
 }
 
+/// The rule of the zone that is declared; empty without one.
+fn zone_of(declared: &Result<Declarations, DeclError>) -> &[u8] {
+    match declared {
+        Ok(declarations) => match &declarations.entries().zone {
+            Some(rule) => rule.as_slice(),
+            None => &[],
+        },
+        Err(_) => &[],
+    }
+}
+
 /// Adds `NAME and NAME may meet, on 2026-12-01 first, at 23:30`.
 fn push_meeting(page: &mut Page, side: Side<'_>, meeting: Meeting) -> Result<(), AllocError> {
     page.begin()?;
@@ -199,11 +210,13 @@ fn answered<R: Threads + Sync>(
     let before = Side {
         plan: &old.0.plan,
         entries: entries_of(old.1)?,
+        zone: zone_of(old.1),
         text: old.0.table.as_slice(),
     };
     let after = Side {
         plan: &new.0.plan,
         entries: entries_of(new.1)?,
+        zone: zone_of(new.1),
         text: new.0.table.as_slice(),
     };
     compared(rt, alloc, markdown, before, after, first)

@@ -69,7 +69,11 @@ pub(crate) fn held_by(
     let mut days = vec![in alloc; 0u64; kinds.len() / 64 + 2]?;
     let mut starts = MinuteSet::new();
     let reach = match occupied {
-        Occupied::Cron { schedule, reach } => {
+        Occupied::Cron {
+            schedule,
+            reach,
+            ..
+        } => {
             starts = schedule.times();
             set_due(days.as_mut_slice(), schedule, kinds);
             *reach

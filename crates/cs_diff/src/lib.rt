@@ -1,4 +1,5 @@
-//! Shows what an edit of two tables and their declarations changes.
+//! Shows what an edit of two tables and their declarations changes. Its windows are those of the
+//! fields, without changes of the zone's clock.
 #![tactic(auto)]
 
 mod answer;

@@ -3,6 +3,7 @@ ghost use Rattle.std.specs.Prelude.{◌≡◌, ◌+◌, ◌<◌, All, IfOk, OnOk
 ghost use Rattle.std.specs.List.{list_any};
 ghost use Rattle.cs_windows.specs.Occupied.{job_of};
 ghost use Rattle.cs_windows.specs.Window.{touches};
+ghost use Rattle.cs_zone.specs.Zone.{no_zone};
 ghost use Rattle.cs_diff.specs.Meeting.{IsMeeting, is_held, windows_by};
 
 use crate::binding::Binding;
@@ -11,6 +12,7 @@ use cs_civil::{Day, DayKind, MINUTES_OF_DAY, four_days, kind_of};
 use cs_crontab::When;
 use cs_plan::Plan;
 use cs_windows::{Occupied, Window, touches, windows_on};
+use cs_zone::Zone;
 use std::alloc::{AllocError, Global};
 
 /// 28 years, in which each sequence of days comes.
@@ -26,9 +28,11 @@ pub(crate) struct Meeting {
     pub(crate) minute: u16,
 }
 
-/// The windows of a job: from each due minute on as long as its longest time; of an anacron job
-/// from the first catch-up minute of each day to the end of a run that starts in the last one.
-fn occupied_by(plan: &Plan, job: u16) -> Occupied<'_>
+/// The windows of a job: from each minute on that its fields list, without changes of the zone's
+/// clock, as long as its longest time; of an anacron job from the first catch-up minute of each day
+/// to the end of a run that starts in the last one.
+fn occupied_by<'a>(plan: &'a Plan, none: &'a Zone, job: u16) -> Occupied<'a>
+    requires { none.now ≡ no_zone }
     ensures { job_of result ≡ windows_by plan.now job }
 {
     let (max, hours) = (plan.job_at(job).max(), plan.hours());
@@ -36,6 +40,7 @@ fn occupied_by(plan: &Plan, job: u16) -> Occupied<'_>
         return match line.when() {
             When::At(schedule) => Occupied::Cron {
                 schedule,
+                zone: none,
                 reach: max,
             },
             When::Reboot => Occupied::CatchUp {
@@ -65,9 +70,10 @@ fn kinds_from(alloc: Global, first: Day) -> Result<Vec<DayKind>, AllocError> {
 
 fn all_held(alloc: Global, plan: &Plan, kinds: &[DayKind]) -> Result<Vec<Held>, AllocError> {
     let mut all = Vec::new(alloc);
+    let none = Zone::none();
     let count = plan.jobs().len() as u16;
     for job in 0..count {
-        all.push(held_by(alloc, &occupied_by(plan, job), kinds)?)?;
+        all.push(held_by(alloc, &occupied_by(plan, &none, job), kinds)?)?;
     }
     Ok(all)
 }
@@ -85,7 +91,8 @@ fn is_held(alloc: Global, plan: &Plan, job: u16, day: Day, minute: u16) -> Resul
     requires { minute < 1440 }
     ensures { IfOk result (λ held. held ≡ is_held plan.now job day minute) }
 {
-    let occupied = [occupied_by(plan, job)];
+    let none = Zone::none();
+    let occupied = [occupied_by(plan, &none, job)];
     let windows = windows_on(alloc, occupied.as_slice(), four_days(day).as_slice())?;
     Ok(any_holds(windows.as_slice(), minute))
 }

@@ -12,6 +12,8 @@ pub(crate) struct Side<'a> {
     pub(crate) plan: &'a Plan,
     /// What is declared of cron jobs.
     pub(crate) entries: &'a [CronEntry],
+    /// The rule of the zone that is declared; empty without one.
+    pub(crate) zone: &'a [u8],
     /// The text of the crontab.
     pub(crate) text: &'a [u8],
 }

@@ -17,7 +17,13 @@ const TERMS: [Term; 5] = [
 ];
 
 /// What is declared of all jobs.
-const PLAN_TERMS: [Term; 4] = [Term::Capacity, Term::Hours, Term::Pass, Term::Offset];
+const PLAN_TERMS: [Term; 5] = [
+    Term::Capacity,
+    Term::Hours,
+    Term::Pass,
+    Term::Offset,
+    Term::Zone,
+];
 
 #[derive(Clone, Copy)]
 enum Term {
@@ -30,7 +36,10 @@ enum Term {
     Capacity,
     Hours,
     Pass,
+    /// With a zone, that of its clock on 28 February.
     Offset,
+    /// The rule of the zone.
+    Zone,
 }
 
 impl Term {
@@ -45,6 +54,7 @@ impl Term {
             Term::Hours => "hours ",
             Term::Pass => "pass ",
             Term::Offset => "offset ",
+            Term::Zone => "zone ",
         }
     }
 
@@ -61,6 +71,7 @@ impl Term {
             Term::Hours => push_hours(page, plan),
             Term::Pass => push_pass(page, plan),
             Term::Offset => push_offset(page, plan),
+            Term::Zone => push_zone(page, side.zone),
         }
     }
 }
@@ -125,6 +136,13 @@ fn push_offset(page: &mut Page, plan: &Plan) -> Result<(), AllocError> {
         page.words("-")?;
     }
     page.number(u64::from(plan.offset().unsigned_abs()))
+}
+
+fn push_zone(page: &mut Page, rule: &[u8]) -> Result<(), AllocError> {
+    if rule.is_empty() {
+        return page.words("none");
+    }
+    page.code(rule)
 }
 
 fn value_of(page: &Page, side: Side<'_>, job: u16, term: Term) -> Result<Vec<u8>, AllocError> {

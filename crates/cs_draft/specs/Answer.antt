@@ -8,7 +8,7 @@ use Rattle.cs_anacrontab.specs.Anacrontab.{JobLine, Table as JobTable}
 use Rattle.cs_place.specs.declared.places.Place.{Place}
 use Rattle.cs_plan.specs.Plain.{is_possible_max}
 use Rattle.cs_decl.specs.declared.entries.Entries.{Entries}
-use Rattle.cs_draft.specs.Draft.{IsUpdate, Warn, nothing}
+use Rattle.cs_draft.specs.Draft.{IsUpdate, Warn, draft_base}
 use Rattle.cs_args.specs.Asked.{AskedDraft}
 use Rattle.cs_args.specs.declared.question.WordFault.TheVariants.{BadMax}
 use Rattle.cs_io.specs.Files.{Failed, IsTooLong}
@@ -31,10 +31,10 @@ abbrev pub PrintsUpdate : Table → JobTable → List Place → Entries → ℕ 
 PrintsUpdate table jobs places old max given ending = IsPrinted
     (λ out. IsUpdate table jobs places old max given out × Warn table jobs old out ending.err) ending
 
--- the declarations that are updated; a draft updates `nothing`
-abbrev pub updated : ℤ → Option Entries → Entries
-updated offset None = nothing offset
-updated offset (Some old) = old
+-- the declarations that are updated, or what a draft is an update of
+abbrev pub updated : List CommandLine → ℤ → Option (List ℕ) → Option Entries → Entries
+updated lines offset rule None = draft_base lines offset rule
+updated lines offset rule (Some old) = old
 
 abbrev pub IsRefused : Ending → Type 0
 IsRefused ending = (ending.status ≡ 3) × (ending.out ≡ [])
@@ -53,9 +53,10 @@ PrintsTimed table jobs places old max (Some given) ending =
     ⊎ (All (IsOfTables table.lines jobs.lines) given
     × PrintsUpdate table jobs places old max given ending)
 
-abbrev pub PrintsDraft : ℕ → ℤ → Draftable → Ending → Type 0
-PrintsDraft max offset x = PrintsTimed x.tables.crontab x.tables.jobs x.tables.places
-    (updated offset (option_map (λ p. p.0) x.old)) max (given_in x.maxes)
+abbrev pub PrintsDraft : ℕ → ℤ → Option (List ℕ) → Draftable → Ending → Type 0
+PrintsDraft max offset zone x = PrintsTimed x.tables.crontab x.tables.jobs x.tables.places
+    (updated x.tables.crontab.lines offset zone (option_map (λ p. p.0) x.old)) max
+    (given_in x.maxes)
 
 abbrev pub ReadsOld : (List ℕ → Option (List ℕ)) → Option Text → Failed → Failed
     → Result (Option Entries) Trouble → Type 0
@@ -87,9 +88,10 @@ abbrev pub FindsDraftable : AskedDraft → (List ℕ → Option (List ℕ)) → 
 FindsDraftable a = FindsBy (is_possible_max a.max) a
 
 -- the draft is printed, or the first fault of the words and the files
-abbrev pub AnswersDraft : AskedDraft → ℤ → (List ℕ → Option (List ℕ)) → List ℕ → Failed → Failed
-    → Ending → Type 0
-AnswersDraft a offset files w = Answers (FindsDraftable a files w) (PrintsDraft a.max offset)
+abbrev pub AnswersDraft : AskedDraft → ℤ → Option (List ℕ) → (List ℕ → Option (List ℕ)) → List ℕ
+    → Failed → Failed → Ending → Type 0
+AnswersDraft a offset zone files w =
+    Answers (FindsDraftable a files w) (PrintsDraft a.max offset zone)
 
 -- without the bytes
 abbrev pub entries_in : {X E : Type 0} → Result (Option (Entries × X)) E → Result (Option Entries) E

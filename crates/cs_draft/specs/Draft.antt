@@ -25,10 +25,11 @@ use Rattle.cs_decl.specs.declared.entries.AnacronEntry.{AnacronEntry}
 use Rattle.cs_decl.specs.declared.entries.Entries.{Entries}
 use Rattle.cs_decl.specs.Faults.{first_fault, minutes_of}
 use Rattle.cs_decl.specs.Meaning.{declared_by}
-use Rattle.cs_decl.specs.Join.{is_left_out, is_named, is_of_job, join_faults}
+use Rattle.cs_decl.specs.Join.{is_left_out, is_named, is_of_job, join_faults, zone_of}
 use Rattle.cs_plan.specs.Reboot.{is_reboot}
 use Rattle.cs_decl.specs.Lines.{names_of}
 use Rattle.cs_decl.specs.When.{is_told_when, same_when}
+use Rattle.cs_decl.specs.TwiceStarted.{starts_twice}
 use Rattle.cs_command.specs.Words.{names_lock}
 use Rattle.cs_command.specs.Locks.{lock_of, is_below}
 use Rattle.cs_command.specs.Timeouts.{asked_for, program_of, time_limit}
@@ -294,6 +295,7 @@ pub record AreUpdates (crontab : Crontab) (anacrontab : Anacrontab) (places : Li
   pub jobs : All (IsUpdatedJob old max given new) anacrontab.lines
   pub capacity : new.capacity ≡ old.capacity
   pub offset : new.offset ≡ old.offset
+  pub zone : new.zone ≡ old.zone
   pub hours : new.hours ≡ old.hours
   pub pass : new.pass ≡ old.pass
   pub default : new.default ≡ old.default
@@ -307,12 +309,13 @@ IsUpdate crontab anacrontab places old max given bytes = (new : Entries)
     × IsSound crontab anacrontab bytes new
     × AreUpdates crontab anacrontab places old max given new
 
--- A draft is an update of this: no job is declared, the capacity is the greatest, clocks are `east`
--- minutes ahead of UTC, and catch-up is at all hours.
-abbrev pub nothing : ℤ → Entries
-nothing east = record {
+-- No job is declared, the capacity is the greatest, clocks follow a zone or are `east` minutes ahead
+-- of UTC, and catch-up is at all hours.
+abbrev pub nothing : ℤ → Option (List ℕ) → Entries
+nothing east zone = record {
   capacity = pos MAX_CAPACITY;
-  offset = east;
+  offset = if is_some zone then pos 0 else east;
+  zone = zone;
   pass = None;
   default = None;
   hours = (pos 0, pos MINUTES_OF_DAY);
@@ -322,6 +325,17 @@ nothing east = record {
   left_out = [];
   doubled = None;
 }
+
+-- a line starts more than once in some minute by the clock of the entries' zone
+abbrev pub has_twice_started : List CommandLine → Entries → Bool
+has_twice_started lines d =
+    is_some (find (λ line. starts_twice (zone_of d) line.when) lines)
+
+-- A draft is an update of this: of nothing by the zone, or by the offset alone where a line would
+-- start twice by the zone.
+abbrev pub draft_base : List CommandLine → ℤ → Option (List ℕ) → Entries
+draft_base lines east zone =
+    if has_twice_started lines (nothing east zone) then nothing east None else nothing east zone
 
 -- ---- warnings
 

@@ -1,5 +1,5 @@
 //! The subcommand `draft`.
-ghost use Rattle.std.specs.Prelude.{◌≡◌, ◌≢◌, All, IfErr, IfOk, IfSome, IsNone, OnOk, option_map, true};
+ghost use Rattle.std.specs.Prelude.{◌≡◌, ◌≢◌, [], All, IfErr, IfOk, IfSome, IsNone, OnOk, option_map, true};
 ghost use Rattle.cs_args.specs.Asked.{asked_draft};
 ghost use Rattle.cs_plan.specs.Plain.{is_possible_max};
 ghost use Rattle.cs_io.specs.Files.{AreReadInTurn, IsFresh};
@@ -11,17 +11,19 @@ ghost use Rattle.cs_draft.specs.Answer.{FindsDraftable, IsRefused, IsOfTables, P
 ghost use Rattle.cs_draft.specs.Answer.{ReadsOld, ReadsText, entries_in, updated};
 
 use crate::draft::{draw_up, update};
+use crate::kept::was_left_out;
 use cs_anacrontab::Job;
 use cs_args::{DraftWords, WordFault};
-use cs_civil::Bytes;
+use cs_civil::{Bytes, push_number};
 use cs_crontab::Line;
-use cs_decl::{Declarations, read_declarations};
+use cs_decl::{Declarations, Entries, line_started_twice, read_declarations};
 use cs_files::{Fault, Response, Status, Tables, all_bytes_at, declared_fault, find_tables};
 use cs_io::{Inputs, Output};
 use cs_place::push_shown;
 use cs_plan::is_possible_max;
 use cs_retrace::{Given, JobName, MaxFault, has_job, read_maxes};
 use std::alloc::{AllocError, Global};
+use std::slice;
 
 /// A fault of a line of the longest times: `PATH line 3: NAME ..`, the name if the line has one.
 fn refused(
@@ -54,6 +56,11 @@ fn misread(alloc: Global, path: &str, place: u64, fault: &MaxFault) -> Result<Re
     };
     refused(alloc, path, place, name, reason)
 }
+
+/// Why old declarations with a zone aren't updated.
+const TWICE: &[u8] =
+    b" would start more than once in a minute when clocks go forward: make it due once then, or \
+    begin its minute or hour with *";
 
 fn unknown(name: &JobName) -> &'static str {
     match name {
@@ -164,16 +171,49 @@ pub fn find_draftable<'a, I: Inputs, E: Output>(
     Ok(Draftable { tables, old, maxes })
 }
 
+/// The first line that starts more than once in a minute by the zone of old declarations, which
+/// don't leave it out.
+fn first_twice(alloc: Global, old: &Entries, lines: &[Line]) -> Result<Option<u32>, AllocError> {
+    for line in lines {
+        if !was_left_out(false, old, line) {
+            let number = line_started_twice(alloc, old, slice::from_ref(line))?;
+            if number.is_some() {
+                return Ok(number);
+            }
+        }
+    }
+    Ok(None)
+}
+
+/// Tells that the text didn't pass: by the zone of old declarations a new line may start more than
+/// once in a minute.
+fn not_drawn(alloc: Global, found: &Draftable) -> Result<Response, AllocError>
+    ensures { IfOk result (λ r. (r.status ≡ 2) × (r.out ≡ [])) }
+{
+    let mut fault = Vec::from_slice(alloc, b"no draft could be made".as_slice())?;
+    if let Some((old, _bytes)) = &found.old {
+        let lines = found.tables.crontab.lines();
+        if let Some(number) = first_twice(alloc, old.entries(), lines)? {
+            fault.extend_from_slice(b": line ")?;
+            push_number(alloc, &mut fault, u128::from(number))?;
+            fault.extend_from_slice(TWICE)?;
+        }
+    }
+    Response::fault(alloc, Status::Unknown, b"".as_slice(), fault.as_slice())
+}
+
 fn show(
     alloc: Global,
     max: u64,
     offset: i16,
+    zone: &Option<Bytes>,
     found: &Draftable,
     given: &[Given],
 ) -> Result<Response, AllocError>
     ensures printed { IfOk result
         (PrintsUpdate found.now.tables.crontab found.now.tables.jobs found.now.tables.places
-        (updated offset (option_map (λ p. p.0) found.now.old)) max given.now) }
+        (updated found.now.tables.crontab.lines offset zone.now
+        (option_map (λ p. p.0) found.now.old)) max given.now) }
     ensures done { IfOk result (λ r. r.status ≢ 6) }
 {
     let (table, jobs) = (&found.tables.crontab, &found.tables.jobs);
@@ -183,30 +223,31 @@ fn show(
         Some((old, bytes)) => {
             let (old, bytes) = (old.entries(), bytes.as_slice());
             update(
-                alloc, table, jobs, places, old, bytes, max, given, remarks, false,
+                alloc, table, jobs, places, old, bytes, max, given, remarks, false, None,
             )?
         }
-        None => draw_up(alloc, table, jobs, places, max, given, remarks, offset)?,
+        None => draw_up(
+            alloc, table, jobs, places, max, given, remarks, offset, zone,
+        )?,
     };
     match drawn {
         Some((text, warnings)) => Ok(Response::done(text.into_vec(), warnings)),
-        None => {
-            let fault = b"no draft could be made".as_slice();
-            Response::fault(alloc, Status::Unknown, b"".as_slice(), fault)
-        }
+        None => not_drawn(alloc, found),
     }
 }
 
 /// Answers `draft TABLE [--anacrontab FILE] [--max N] [--update OLD] [--max-from FILE]`, where
-/// clocks are `offset` minutes ahead of UTC. The only error is out of memory.
+/// clocks go by the zone, a rule (POSIX, TZ), or without one are `offset` minutes ahead of UTC. The
+/// only error is out of memory.
 pub fn answer_draft(
     alloc: Global,
     words: &DraftWords<'_>,
     offset: i16,
+    zone: &Option<Bytes>,
     found: &Draftable,
 ) -> Result<Response, AllocError>
     ensures printed { IfOk result (λ r. is_possible_max words.now.max ≡ true
-        → PrintsDraft words.now.max offset found.now r) }
+        → PrintsDraft words.now.max offset zone.now found.now r) }
     ensures done { IfOk result (λ r. r.status ≢ 6) }
 {
     let path = words.maxes.unwrap_or("");
@@ -218,5 +259,5 @@ pub fn answer_draft(
     if let Some(one) = first_unknown(lines, jobs, given.as_slice()) {
         return refused(alloc, path, one.place, Some(&one.name), unknown(&one.name));
     }
-    show(alloc, words.max, offset, found, given.as_slice())
+    show(alloc, words.max, offset, zone, found, given.as_slice())
 }

@@ -1,6 +1,6 @@
 //! Declarations that are drawn up for tables, and read back.
-ghost use Rattle.std.specs.Prelude.{IfOk, IfSome};
-ghost use Rattle.cs_draft.specs.Draft.{IsUpdate, Warn, nothing};
+ghost use Rattle.std.specs.Prelude.{◌≡◌, IfOk, IfSome, is_some};
+ghost use Rattle.cs_draft.specs.Draft.{IsUpdate, Warn, draft_base, has_twice_started, nothing};
 
 use crate::confirm::is_update;
 use crate::old::Old;
@@ -8,11 +8,11 @@ use crate::sheet::Asked;
 use crate::updated::updated_text;
 use cs_anacrontab::Anacrontab;
 use cs_civil::{Bytes, MINUTES_OF_DAY, Sequence};
-use cs_crontab::Crontab;
-use cs_decl::Entries;
+use cs_crontab::{Crontab, Line};
+use cs_decl::{Entries, line_started_twice};
 use cs_json::{Misread, parse};
 use cs_place::Place;
-use cs_plan::MAX_CAPACITY;
+use cs_plan::{MAX_CAPACITY, copy_name};
 use cs_retrace::Given;
 use std::alloc::{AllocError, Global};
 
@@ -23,8 +23,9 @@ use std::alloc::{AllocError, Global};
 /// entry that gives a schedule belongs to the line of that schedule; entries without one belong to
 /// the lines in their order, if there are as many of both; a last entry belongs to the last line.
 /// If one entry is left over and one command is new, the command takes it over where `may_follow`
-/// allows it and the lock is the same. New jobs are declared as by [`draw_up`]. None where the
-/// text, read back, isn't an update, which should never happen.
+/// allows it and the lock is the same. New jobs are declared as by [`draw_up`], which names the line
+/// that starts `twice`, if any. None where the text, read back, isn't an update: a new line may
+/// start more than once in a minute by the zone; else it should never happen.
 pub(crate) fn update(
     alloc: Global,
     table: &Crontab,
@@ -36,6 +37,7 @@ pub(crate) fn update(
     given: &[Given],
     remarks: &[u8],
     is_draft: bool,
+    twice: Option<u32>,
 ) -> Result<Option<(Bytes, Bytes)>, AllocError>
     ensures { IfOk result (λ found. IfSome found (λ drawn. IsUpdate table.now jobs.now places.now
         entries.now max given.now drawn.0 × Warn table.now jobs.now entries.now drawn.0 drawn.1)) }
@@ -49,6 +51,7 @@ pub(crate) fn update(
         value: &value,
         entries,
         is_draft,
+        twice,
     };
     let lines = table.lines();
     let asked = Asked {
@@ -68,8 +71,63 @@ pub(crate) fn update(
     Ok(None)
 }
 
+/// No job is declared yet; clocks go by the zone, or are `offset` minutes ahead of UTC.
+fn nothing(alloc: Global, offset: i16, zone: &Option<Bytes>) -> Result<Entries, AllocError>
+    ensures { IfOk result (λ d. d ≡ nothing offset zone.now) }
+{
+    Ok(Entries {
+        capacity: i128::from(MAX_CAPACITY),
+        offset: if zone.is_some() {
+            0
+        } else {
+            i128::from(offset)
+        },
+        zone: copy_name(alloc, zone)?,
+        hours: (0, i128::from(MINUTES_OF_DAY)),
+        pass: None,
+        groups: Sequence::new(alloc),
+        cron: Sequence::new(alloc),
+        anacron: Sequence::new(alloc),
+        default: None,
+        left_out: Sequence::new(alloc),
+        doubled: None,
+    })
+}
+
+/// What a draft is an update of, and the line that starts more than once in a minute by the zone,
+/// if any: then clocks don't go by it.
+fn draft_base(
+    alloc: Global,
+    lines: &[Line],
+    offset: i16,
+    zone: &Option<Bytes>,
+) -> Result<(Entries, Option<u32>), AllocError>
+    ensures { IfOk result (λ base. base.0 ≡ draft_base lines.now offset zone.now) }
+{
+    let by_zone = nothing(alloc, offset, zone)?;
+    match line_started_twice(alloc, &by_zone, lines)? {
+        Some(number) => Ok((nothing(alloc, offset, &None)?, Some(number))),
+        None => Ok((by_zone, None)),
+    }
+}
+
+/// The same as JSON.
+fn base_text(alloc: Global, base: &Entries) -> Result<String, AllocError> {
+    if let Some(rule) = &base.zone {
+        // a rule is plain ASCII
+        let rule = str::from_utf8(rule.as_slice()).unwrap_or("");
+        return format!(in alloc; "{{\"capacity\": {MAX_CAPACITY}, \"zone\": \"{rule}\"}}");
+    }
+    let offset = base.offset;
+    if offset == 0 {
+        return format!(in alloc; "{{\"capacity\": {MAX_CAPACITY}}}");
+    }
+    format!(in alloc; "{{\"capacity\": {MAX_CAPACITY}, \"offset\": {offset}}}")
+}
+
 /// Returns declarations for the jobs of both tables: an update of nothing. `max` and `offset` are
-/// minutes; clocks are ahead of UTC by `offset`.
+/// minutes; clocks go by the zone (POSIX, TZ), or are ahead of UTC by `offset` if there is none or
+/// a line would start more than once in a minute by it, which is warned of.
 ///
 /// A job may run for `max` minutes, or as long as timeout(1) lets the whole command run; a command
 /// at most to its next due minute, a gathered one by equal shares for its parts. A time is a guess
@@ -86,30 +144,16 @@ pub(crate) fn draw_up(
     given: &[Given],
     remarks: &[u8],
     offset: i16,
+    zone: &Option<Bytes>,
 ) -> Result<Option<(Bytes, Bytes)>, AllocError>
     ensures { IfOk result (λ found. IfSome found (λ drawn. IsUpdate table.now jobs.now places.now
-        (nothing offset) max given.now drawn.0
-        × Warn table.now jobs.now (nothing offset) drawn.0 drawn.1)) }
+        (draft_base table.now.lines offset zone.now) max given.now drawn.0
+        × Warn table.now jobs.now (draft_base table.now.lines offset zone.now) drawn.0 drawn.1)) }
 {
-    let text = if offset == 0 {
-        format!(in alloc; "{{\"capacity\": {MAX_CAPACITY}}}")?
-    } else {
-        format!(in alloc; "{{\"capacity\": {MAX_CAPACITY}, \"offset\": {offset}}}")?
-    };
-    let old = Entries {
-        capacity: i128::from(MAX_CAPACITY),
-        offset: i128::from(offset),
-        hours: (0, i128::from(MINUTES_OF_DAY)),
-        pass: None,
-        groups: Sequence::new(alloc),
-        cron: Sequence::new(alloc),
-        anacron: Sequence::new(alloc),
-        default: None,
-        left_out: Sequence::new(alloc),
-        doubled: None,
-    };
+    let (old, twice) = draft_base(alloc, table.lines(), offset, zone)?;
+    let text = base_text(alloc, &old)?;
     let bytes = text.as_bytes();
     update(
-        alloc, table, jobs, places, &old, bytes, max, given, remarks, true,
+        alloc, table, jobs, places, &old, bytes, max, given, remarks, true, twice,
     )
 }

@@ -131,7 +131,7 @@ fn entry_that_tells<'e>(timed: bool, entries: &'e Entries, line: &Line) -> Optio
     cron.iter().find(|entry| tells(timed, line, &entry.name))
 }
 
-fn was_left_out(timed: bool, old: &Entries, line: &Line) -> bool
+pub(crate) fn was_left_out(timed: bool, old: &Entries, line: &Line) -> bool
     ensures { result ≡ list_any (tells timed line.now) old.now.left_out }
 {
     let names = old.left_out.as_slice();
@@ -195,9 +195,19 @@ fn begin_with(old: &[GroupEntry], new: &[GroupEntry]) -> bool
     true
 }
 
+fn is_same_zone(old: &Option<Bytes>, new: &Option<Bytes>) -> bool
+    ensures { IsTrue result → new.now ≡ old.now }
+{
+    match new {
+        Some(rule) => is_text(rule.as_slice(), old),
+        None => old.is_none(),
+    }
+}
+
 pub(crate) fn are_terms(old: &Entries, new: &Entries) -> bool
     ensures capacity { IsTrue result → new.now.capacity ≡ old.now.capacity }
     ensures offset { IsTrue result → new.now.offset ≡ old.now.offset }
+    ensures zone { IsTrue result → new.now.zone ≡ old.now.zone }
     ensures hours { IsTrue result → new.now.hours ≡ old.now.hours }
     ensures pass { IsTrue result → new.now.pass ≡ old.now.pass }
     ensures default { IsTrue result → new.now.default ≡ old.now.default }
@@ -206,6 +216,7 @@ pub(crate) fn are_terms(old: &Entries, new: &Entries) -> bool
 {
     old.capacity == new.capacity
         && old.offset == new.offset
+        && is_same_zone(&old.zone, &new.zone)
         && old.hours == new.hours
         && old.pass == new.pass
         && old.default == new.default

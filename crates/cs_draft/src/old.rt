@@ -15,6 +15,8 @@ pub(crate) struct Old<'v> {
     pub(crate) entries: &'v Entries,
     /// Whether nothing was declared: then nothing is noted as new.
     pub(crate) is_draft: bool,
+    /// The line that starts more than once in a minute by the zone, which a draft then doesn't name.
+    pub(crate) twice: Option<u32>,
 }
 
 /// An entry that gives a command.

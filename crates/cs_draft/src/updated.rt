@@ -29,6 +29,11 @@ const UNREAD: &str =
     add \"group\": \"/run/x\", \"mode\": \"try\" to its entry, \
     and {\"name\": \"/run/x\", \"exclusive\": true} to \"groups\"";
 
+/// Why a draft names no zone.
+const TWICE: &str =
+    " would start more than once in a minute when clocks go forward, so the draft keeps one offset \
+    all year: make it due once then, or begin its minute or hour with *, and draft again";
+
 /// Why a command that takes a lock has none: no group is left.
 const FULL: &str = " is declared without a lock: its lock file would be group 65 of at most 64";
 
@@ -317,7 +322,7 @@ fn tell_hours(told: &mut Vec<u8>, jobs: &Anacrontab) -> Done {
 
 /// Copies the members that aren't lists.
 fn add_front(alloc: Global, text: &mut Vec<u8>, old: &Value) -> Done {
-    let names = ["note", "capacity", "offset", "hours", "pass"];
+    let names = ["note", "capacity", "offset", "zone", "hours", "pass"];
     add_members(alloc, text, LINE, old, names.as_slice())?;
     if let Some(default) = old.get("default") {
         add(text, LINE, "default", "{")?;
@@ -375,6 +380,9 @@ pub(crate) fn updated_text(
     remark(&mut sheet.told, remarks)?;
     if old.is_draft {
         tell_hours(&mut sheet.told, jobs)?;
+    }
+    if let Some(number) = old.twice {
+        warn(alloc, &mut sheet.told, CRONTAB, number, TWICE)?;
     }
     sheet.add_lines(alloc, asked, old, bound.as_slice(), pairs.as_slice())?;
     tell_gone(alloc, &mut sheet.told, bound.as_slice(), pairs.as_slice())?;

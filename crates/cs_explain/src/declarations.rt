@@ -2,7 +2,7 @@
 use crate::meaning::Meaning;
 
 /// In the order of their numbers.
-pub(crate) static MEANINGS: [Meaning; 20] = [
+pub(crate) static MEANINGS: [Meaning; 24] = [
     Meaning {
         name: "NotJson",
         short: "the bytes aren't JSON",
@@ -18,12 +18,12 @@ right:
     Meaning {
         name: "BadShape",
         short: "a member is unknown or absent, or has no value of its kind",
-        text: r#"The members are capacity, offset, hours, pass, groups, default, cron, anacron
-and left_out. Those of a cron entry are line, command, when, max, guess, weight,
-group, mode, name and parts; of a part name and max; of left_out line, command
-and when, of which line or command is enough; of default max and weight. Each
-object may have a note, a text. Numbers are whole and have no quotes; offset is
--1439 to 1439.
+        text: r#"The members are capacity, offset or zone, hours, pass, groups, default, cron,
+anacron and left_out. Those of a cron entry are line, command, when, max, guess,
+weight, group, mode, name and parts; of a part name and max; of left_out line,
+command and when, of which line or command is enough; of default max and weight.
+Each object may have a note, a text. Numbers are whole and have no quotes; the
+offset is -1439 to 1439.
 crontab:
   30 23 * * * /usr/bin/backup
 wrong:
@@ -260,5 +260,62 @@ wrong:
 right:
   {"capacity": 1, "cron": [{"line": 4, "max": 60,
    "parts": [{"name": "logrotate", "max": 60}]}]}"#,
+    },
+    Meaning {
+        name: "BadZone",
+        short: "the zone is no rule that can be followed",
+        text: r#"zone is a value of TZ as in tzset(3), with the days on which the clocks change;
+the last line of a zone's file in /usr/share/zoneinfo is one. cronsafe(1) says
+at day which rules are refused.
+crontab:
+  30 23 * * * /usr/bin/backup
+wrong:
+  {"capacity": 1, "zone": "Europe/Berlin", "cron": [{"line": 1, "max": 30}]}
+right:
+  {"capacity": 1, "zone": "CET-1CEST,M3.5.0,M10.5.0/3",
+   "cron": [{"line": 1, "max": 30}]}"#,
+    },
+    Meaning {
+        name: "HoursInZone",
+        short: "a zone is declared, and hours that aren't all hours",
+        text: r#"anacron takes its catch-up hours by the zone's clock, and cronsafe by one offset
+all year. So beside a zone, catch-up may start a job at any hour.
+crontab:
+  30 23 * * * /usr/bin/backup
+wrong:
+  {"capacity": 1, "zone": "CET-1CEST,M3.5.0,M10.5.0/3", "hours": [0, 120],
+   "cron": [{"line": 1, "max": 30}]}
+right:
+  {"capacity": 1, "zone": "CET-1CEST,M3.5.0,M10.5.0/3",
+   "cron": [{"line": 1, "max": 30}]}"#,
+    },
+    Meaning {
+        name: "PassInZone",
+        short: "a zone and a pass minute are declared",
+        text: r#"What starts anacron each day does so by the zone's clock, and pass is by one
+offset all year. Leave it out, or declare an offset in place of the zone.
+crontab:
+  30 23 * * * /usr/bin/backup
+wrong:
+  {"capacity": 1, "zone": "CET-1CEST,M3.5.0,M10.5.0/3", "pass": 450,
+   "cron": [{"line": 1, "max": 30}]}
+right:
+  {"capacity": 1, "offset": 60, "pass": 450,
+   "cron": [{"line": 1, "max": 30}]}"#,
+    },
+    Meaning {
+        name: "StartsTwice",
+        short: "after clocks go forward, cron starts the line twice in a minute",
+        text: r#"Right after clocks go forward, cron starts a line once for each skipped minute
+that it lists, and once more if it lists that minute too. A plan has one run of
+a job a minute. Write the line so that it is due once, or begin its minute or
+its hour with *: then it goes by the clock alone.
+crontab:
+  0 2,3 * * * /usr/bin/backup
+wrong:
+  {"capacity": 1, "zone": "CET-1CEST,M3.5.0,M10.5.0/3",
+   "cron": [{"line": 1, "max": 30}]}
+right:
+  {"capacity": 1, "offset": 60, "cron": [{"line": 1, "max": 30}]}"#,
     },
 ];

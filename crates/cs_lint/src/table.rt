@@ -360,7 +360,7 @@ impl<'a> Table<'a> {
     fn find_unheeded(&mut self, name: &[u8]) -> Done {
         let why = match str::from_utf8(name).unwrap_or("") {
             "CRON_TZ" => {
-                "Debian's cron ignores it, so remove it; cronie's follows it, but an \"offset\" in \
+                "Debian's cron ignores it, so remove it; cronie's follows it, but a \"zone\" in \
                  the declarations is for all tables"
             }
             "RANDOM_DELAY" => "remove it, since no start is delayed at random",

@@ -1,9 +1,9 @@
 -- Runs that may go on, minute by minute.
-use Rattle.std.proofs.Common.{◌≡◌, ◌⊎◌, ℕ, ◌+◌, ◌<◌, ◌≤◌, ⊎_elim, List, get_or, length, true, arith, sym, subst}
+use Rattle.std.proofs.Common.{◌≡◌, ℕ, ◌+◌, ◌<◌, ◌≤◌, ⊎_elim, List, get_or, length, true, arith, sym, subst}
 use Rattle.std.specs.Prelude.{Contains}
 use Rattle.std.proofs.lemmas.List.Elements.{Contains-get_or}
 use Rattle.std.proofs.lemmas.Bool.{cases_lt}
-use Rattle.cs_machine.specs.Busy.{IsBusy, IsOver, Lasts, is_due_at}
+use Rattle.cs_machine.specs.Busy.{IsBusy, IsOver, is_due_at}
 use Rattle.cs_machine.specs.declared.setup.JobNote.{JobNote}
 
 pub over_none : (notes : List JobNote) (m : ℕ) → IsOver notes m 0
@@ -15,7 +15,7 @@ over_later notes m over is = λ some.
     record { note = w.note; inside = w.inside; due = w.due; is_due = w.is_due; earlier = let e = w.earlier in omega (arith, e); lasts = w.lasts }
 
 -- a run of the job at a place, due at the minute
-pub over_with : (notes : List JobNote) (i m end : ℕ) (note : JobNote) → i < length notes → note ≡ get_or notes i note → is_due_at note.when m ≡ true → end ≤ m + note.max → IsOver notes (m + 1) end
+pub over_with : (notes : List JobNote) (i m end : ℕ) (note : JobNote) → i < length notes → note ≡ get_or notes i note → is_due_at note m ≡ true → end ≤ m + note.max → IsOver notes (m + 1) end
 over_with notes i m end note less is due within = λ some. record {
   note = note;
   inside = subst (Contains notes) (sym is) (Contains-get_or notes i note less);

@@ -1,5 +1,5 @@
 -- Ends that aren't those of a limit.
-use Rattle.std.proofs.Common.{◌≡◌, ◌≢◌, pos, inl, inr}
+use Rattle.std.proofs.Common.{◌≢◌, pos, inl, inr}
 use Rattle.cs_device.specs.declared.runner.Outcome.{Outcome}
 use Rattle.cs_device.specs.declared.runner.Outcome.TheVariants.{Exited, Killed}
 use Rattle.cs_machine.specs.Limit.{EndsAs}

@@ -1,17 +1,16 @@
 -- When runs of a crontab may go on, by the longest times of its jobs.
-use Rattle.std.specs.Prelude.{◌≡◌, ℕ, ◌+◌, ◌/◌, ◌%◌, ◌<◌, ◌≤◌, Bool, true, false, List, Contains, Option, None, Some}
+use Rattle.std.specs.Prelude.{◌≡◌, ℕ, ◌+◌, ◌/◌, ◌%◌, ◌<◌, ◌≤◌, Bool, true, false, List, Contains, None, Some}
 use Rattle.cs_civil.specs.Calendar.{Kind, kind}
-use Rattle.cs_schedule.specs.Times.{is_due}
-use Rattle.cs_schedule.specs.declared.schedule.Schedule.{Schedule}
+use Rattle.cs_zone.specs.Starts.{is_due}
 use Rattle.cs_machine.specs.declared.setup.JobNote.{JobNote}
 
--- a job of the anacrontab is never due
-abbrev pub is_due_on : Option Schedule → Kind → ℕ → Bool
-is_due_on None day minute = false
-is_due_on (Some schedule) day minute = is_due schedule day minute
+-- by the clock of the zone; a job of the anacrontab is never due
+abbrev pub is_due_on : JobNote → Kind → ℕ → Bool
+is_due_on note day minute =
+    elim note.when [ Some schedule ↦ is_due note.zone schedule day minute | None ↦ false ]
 
-abbrev pub is_due_at : Option Schedule → ℕ → Bool
-is_due_at when t = is_due_on when (kind (t / 1440)) (t % 1440)
+abbrev pub is_due_at : JobNote → ℕ → Bool
+is_due_at note t = is_due_on note (kind (t / 1440)) (t % 1440)
 
 -- a run of one of these jobs may go on in this minute: it was due by then, less than its longest
 -- time ago
@@ -19,7 +18,7 @@ pub record IsBusy (notes : List JobNote) (minute : ℕ) : Type 0 where
   pub note : JobNote
   pub inside : Contains notes note
   pub due : ℕ
-  pub is_due : is_due_at note.when due ≡ true
+  pub is_due : is_due_at note due ≡ true
   pub begun : due ≤ minute
   pub lasts : minute < due + note.max
 
@@ -28,7 +27,7 @@ pub record Lasts (notes : List JobNote) (before over : ℕ) : Type 0 where
   pub note : JobNote
   pub inside : Contains notes note
   pub due : ℕ
-  pub is_due : is_due_at note.when due ≡ true
+  pub is_due : is_due_at note due ≡ true
   pub earlier : due < before
   pub lasts : over ≤ due + note.max
 

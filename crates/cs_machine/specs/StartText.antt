@@ -1,6 +1,5 @@
 -- What is written of a command that can't be started.
 use Rattle.std.specs.Prelude.{ℕ, List, ◌++◌, Option, Some, None, codes}
-use Rattle.std.specs.List.{flat_map}
 use Rattle.cs_place.specs.Shown.{shown_text}
 use Rattle.cs_machine.specs.User.{why_not}
 use Rattle.cs_machine.specs.declared.user.UserFault.{UserFault}

@@ -16,10 +16,10 @@ const AHEAD: u64 = 11_520;
 /// False for a job of the anacrontab.
 pub(crate) fn is_due_on(note: &JobNote, kind: DayKind, minute_of_day: u16) -> bool
     requires { minute_of_day < 1440 }
-    ensures { result ≡ is_due_on note.now.when kind minute_of_day }
+    ensures { result ≡ is_due_on note.now kind minute_of_day }
 {
     match &note.when {
-        Some(when) => when.is_due_on(kind, minute_of_day),
+        Some(when) => note.zone.is_due_on(when, kind, minute_of_day),
         None => false,
     }
 }

@@ -212,6 +212,15 @@ fn push_left(lines: &mut Vec<u8>, value: &Value) -> Result<(), Misread> {
     Ok(())
 }
 
+/// When that is by the clock of the zone, in brackets, if that shows another minute.
+fn push_local(lines: &mut Vec<u8>, value: &Value) -> Result<(), Misread> {
+    let Some(local) = text_if_told(value.get("next_due_local"))? else {
+        return Ok(());
+    };
+    push_told(lines, &[(" (", Some(local)), (")", Some(""))])?;
+    Ok(())
+}
+
 fn push_waiting(lines: &mut Vec<u8>, value: &Value) -> Result<(), Misread> {
     for name in items_at(value, "waiting")? {
         let name = plain_text(name)?;
@@ -220,7 +229,9 @@ fn push_waiting(lines: &mut Vec<u8>, value: &Value) -> Result<(), Misread> {
     let Some(next) = text_if_told(value.get("next_due"))? else {
         return Ok(());
     };
-    push_told(lines, &[("next is ", Some(next)), ("\n", Some(""))])?;
+    push_told(lines, &[("next is ", Some(next))])?;
+    push_local(lines, value)?;
+    lines.extend_from_slice(b"\n")?;
     Ok(())
 }
 
@@ -274,8 +285,9 @@ fn push_runs(lines: &mut Vec<u8>, job: &Value) -> Result<(), Misread> {
         " no run yet"
     };
     let last = last.unwrap_or("");
-    let told = [(" next ", next), (comma, Some(front)), ("", Some(last))];
-    push_told(lines, &told)?;
+    push_told(lines, &[(" next ", next)])?;
+    push_local(lines, job)?;
+    push_told(lines, &[(comma, Some(front)), ("", Some(last))])?;
     Ok(())
 }
 
@@ -370,8 +382,8 @@ fn report_of(alloc: Global, value: &Value) -> Result<Report, Misread> {
 
 /// Reads the text of a daemon's state. A fault if it isn't JSON, a member is absent or has another
 /// form, or a text in it holds a control character; other members are ignored. `next_due`,
-/// `missed`, `ended_at_limit`, `certificate_sha256`, `left_running`, `last_accepted`, `jobs`, and a
-/// run's `until` and `may_meet` may be absent.
+/// `next_due_local`, `missed`, `ended_at_limit`, `certificate_sha256`, `left_running`,
+/// `last_accepted`, `jobs`, and a run's `until` and `may_meet` may be absent.
 pub fn read_report(alloc: Global, state: &[u8]) -> Result<Report, Misread> {
     let value = parse(alloc, state)?;
     report_of(alloc, &value)

@@ -3,6 +3,7 @@ ghost use Rattle.cs_machine.specs.Setup.{note_of, peers_of};
 
 use cs_civil::Bytes;
 use cs_schedule::Schedule;
+use cs_zone::Zone;
 
 /// What a daemon reports of a job besides its runs.
 #[derive(Drop)]
@@ -16,6 +17,11 @@ pub struct JobNote {
     pub peers: Bytes,
     /// When its line of the crontab is due; none for a job of the anacrontab.
     pub when: Option<Schedule>,
+    /// The zone by whose clock that is.
+    pub zone: Zone,
+    /// The name of the zone's clock in the part of the year in which it shows another minute than
+    /// the plan's, such as `CEST`; empty if there is none.
+    pub other_clock: Bytes,
     /// What people call it: the name of its entry, else the program of its command; the identifier
     /// of a job of the anacrontab.
     pub name: Bytes,

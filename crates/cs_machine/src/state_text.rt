@@ -8,6 +8,7 @@ use crate::state::State;
 use crate::told_file::MEBIBYTE;
 use cs_civil::{Bytes, Minute, date_text, push_number};
 use cs_place::{push_byte, push_hex, push_shown};
+use cs_wall::push_wall;
 use std::alloc::{AllocError, Global};
 
 #[derive(Clone, Copy)]
@@ -155,6 +156,23 @@ fn first_due<'a>(jobs: &'a [JobNote], records: &[JobRecord]) -> Option<(&'a JobN
     first
 }
 
+/// A member such as `2024-07-01 02:30 CEST`, if the clock of the job's zone shows another minute.
+fn push_local(
+    alloc: Global,
+    text: &mut Vec<u8>,
+    note: &JobNote,
+    minute: Minute,
+) -> Result<(), AllocError> {
+    let mut local = Vec::new(alloc);
+    push_wall(&mut local, &note.zone, note.other_clock.as_slice(), minute)?;
+    match local.as_slice() {
+        [b' ', b'(', shown @ .., b')'] => {
+            push_members(alloc, text, &[("next_due_local", Told::Text(shown))])
+        }
+        _ => Ok(()),
+    }
+}
+
 /// `null` if nothing is due.
 fn push_next(
     alloc: Global,
@@ -167,7 +185,8 @@ fn push_next(
     };
     let mut name = Vec::from_slice(alloc, note.front.as_slice())?;
     name.extend_from_slice(&date_text(minute))?;
-    push_text(alloc, text, name.as_slice())
+    push_text(alloc, text, name.as_slice())?;
+    push_local(alloc, text, note, minute)
 }
 
 /// None too if a run's file can't have its name, or memory runs out.
@@ -214,12 +233,18 @@ fn push_last(alloc: Global, text: &mut Vec<u8>, record: &JobRecord) -> Result<()
     push_members(alloc, text, &members)
 }
 
-fn push_due(alloc: Global, text: &mut Vec<u8>, due: Option<Minute>) -> Result<(), AllocError> {
+fn push_due(
+    alloc: Global,
+    text: &mut Vec<u8>,
+    note: &JobNote,
+    due: Option<Minute>,
+) -> Result<(), AllocError> {
     text.extend_from_slice(b",\"next_due\":")?;
-    match due {
-        Some(minute) => push_text(alloc, text, &date_text(minute)),
-        None => text.extend_from_slice(b"null"),
-    }
+    let Some(minute) = due else {
+        return text.extend_from_slice(b"null");
+    };
+    push_text(alloc, text, &date_text(minute))?;
+    push_local(alloc, text, note, minute)
 }
 
 fn push_output(
@@ -249,7 +274,7 @@ fn push_job(
     push_last(alloc, text, record)?;
     push_output(alloc, text, folder, note, record)?;
     push_members(alloc, text, &[("failures", Told::Count(record.failures))])?;
-    push_due(alloc, text, record.due)?;
+    push_due(alloc, text, note, record.due)?;
     text.extend_from_slice(b"}")
 }
 

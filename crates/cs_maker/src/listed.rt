@@ -18,13 +18,13 @@ fn windows_begun(facts: &Facts, classing: &Classing, class: u16) -> u64 {
     let Some(class) = classing.classes.get(usize::from(class)) else {
         return 0;
     };
-    let Some(jobs) = facts.due().get(usize::from(class.profile)) else {
+    let Some(due) = facts.due().get(usize::from(class.profile)) else {
         return 0;
     };
     let mut begun: u64 = 0;
-    for job in jobs {
-        if let Some(task) = facts.tasks().get(usize::from(*job)) {
-            begun = begun.saturating_add(task.minutes.len() as u64);
+    for due in due {
+        if let Some(task) = facts.tasks().get(usize::from(due.job)) {
+            begun = begun.saturating_add(task.minutes(*due).len() as u64);
         }
     }
     begun

@@ -2,7 +2,8 @@
 use Rattle.std.specs.Prelude.{ℕ, ◌+◌, ◌-◌, ◌*◌, ◌/◌, ◌%◌, ◌==◌, ◌||◌, Bool, false, List, [], ◌∷◌, ◌++◌, flat_map, map, min, nat_lt, take, if◌then◌else◌, Option, None, Some}
 use Rattle.std.specs.List.{filter_map, range_with_len}
 use Rattle.cs_civil.specs.Calendar.{Kind, kind, last_day, last_minute}
-use Rattle.cs_schedule.specs.Times.{is_due}
+use Rattle.cs_zone.specs.Starts.{is_due}
+use Rattle.cs_zone.specs.Zone.{no_zone}
 use Rattle.cs_crontab.specs.Crontab.{CommandLine}
 use Rattle.cs_crontab.specs.declared.table.When.{When}
 use Rattle.cs_crontab.specs.declared.table.When.TheVariants.{At, Reboot}
@@ -36,7 +37,7 @@ comes (Days count) first day = comes_after count first day
 comes Monthly first day = comes_monthly first day
 
 abbrev pub due_at : ℕ → ℕ → When → Job Kind
-due_at from day (At schedule) = record { begins = is_due schedule; lasts = 1 }
+due_at from day (At schedule) = record { begins = is_due no_zone schedule; lasts = 1 }
 due_at from day Reboot = caught_up false from day
 
 -- the minutes of a day at which a line of the crontab starts, as windows of a minute

@@ -1,5 +1,6 @@
 //! When a job starts on one day.
 ghost use Rattle.std.specs.Prelude.{◌≡◌, ◌≤◌, ◌/◌};
+ghost use Rattle.cs_zone.specs.Zone.{no_zone};
 ghost use Rattle.cs_windows.specs.Occupied.{job_of};
 ghost use Rattle.cs_next.specs.Next.{catch_up, caught_up, comes_after, comes_monthly};
 ghost use Rattle.cs_next.specs.Next.{job_starts, line_starts};
@@ -8,6 +9,7 @@ use cs_anacrontab::{DayCount, Job, Period};
 use cs_civil::{Day, MINUTES_OF_DAY, Minute, kind_of};
 use cs_crontab::{Line, When};
 use cs_windows::Occupied;
+use cs_zone::Zone;
 
 /// The minute of a day at which an anacron job starts, if it does, counted from a minute on; 1,440
 /// if it doesn't.
@@ -47,11 +49,21 @@ fn comes_monthly(first: Day, day: Day) -> bool
 }
 
 /// The minutes of a day at which a line of the crontab starts, as windows of a minute.
-pub(crate) fn line_starts<'a>(line: &'a Line, from: Minute, day: Day) -> Occupied<'a>
+pub(crate) fn line_starts<'a>(
+    line: &'a Line,
+    none: &'a Zone,
+    from: Minute,
+    day: Day,
+) -> Occupied<'a>
+    requires { none.now ≡ no_zone }
     ensures { job_of result ≡ line_starts from day line.now }
 {
     match line.when() {
-        When::At(schedule) => Occupied::Cron { schedule, reach: 1 },
+        When::At(schedule) => Occupied::Cron {
+            schedule,
+            zone: none,
+            reach: 1,
+        },
         When::Reboot => caught_up(false, from, day),
     }
 }

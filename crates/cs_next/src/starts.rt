@@ -1,6 +1,7 @@
 //! The starts of all jobs from a minute on.
 ghost use Rattle.std.specs.Prelude.{◌≡◌, ◌++◌, ◌+◌, ◌≤◌, ◌/◌, IfOk, OnOk, length, map};
 ghost use Rattle.std.specs.List.{filter_map};
+ghost use Rattle.cs_zone.specs.Zone.{no_zone};
 ghost use Rattle.cs_windows.specs.Occupied.{job_of};
 ghost use Rattle.cs_windows.specs.declared.list.TheConstants.{MOST_OCCUPIED};
 ghost use Rattle.cs_next.specs.Next.{next_starts, start_of, starts_of_day, starts_on};
@@ -10,6 +11,7 @@ use cs_anacrontab::Job;
 use cs_civil::{Day, LAST_MINUTE, MINUTES_OF_DAY, Minute, kind_of};
 use cs_crontab::Line;
 use cs_windows::{MOST_OCCUPIED, Occupied, Window, windows_on};
+use cs_zone::Zone;
 use std::alloc::{AllocError, Global};
 
 /// 28 years, in which each sequence of days begins.
@@ -58,16 +60,18 @@ fn occupied_on<'a>(
     alloc: Global,
     lines: &'a [Line],
     jobs: &'a [Job],
+    none: &'a Zone,
     from: Minute,
     day: Day,
 ) -> Result<Vec<Occupied<'a>>, AllocError>
-    requires { from / 1440 ≤ day }
+    requires day { from / 1440 ≤ day }
+    requires zone { none.now ≡ no_zone }
     ensures { IfOk result (λ occupied.
         map job_of occupied.items ≡ starts_on from day lines.now jobs.now) }
 {
     let mut occupied = Vec::new(alloc);
     for line in lines {
-        occupied.push(line_starts(line, from, day))?;
+        occupied.push(line_starts(line, none, from, day))?;
     }
     for job in jobs {
         occupied.push(job_starts(job, from, day))?;
@@ -88,7 +92,8 @@ fn add_day(
     ensures { OnOk result (starts.new.items
         ≡ starts.old.items ++ starts_of_day from lines.now jobs.now day) }
 {
-    let occupied = occupied_on(alloc, lines, jobs, from, day)?;
+    let none = Zone::none();
+    let occupied = occupied_on(alloc, lines, jobs, &none, from, day)?;
     let windows = windows_on(alloc, occupied.as_slice(), &[kind_of(day)])?;
     add_starts(starts, from, day, windows.as_slice())
 }

@@ -1,5 +1,6 @@
 -- The plan of tables for which only the longest time of every run is declared.
 use Rattle.std.specs.Prelude.{ℕ, pos, nat_le, [], ◌++◌, map, None, Bool, not, ◌&&◌, Result, Err, if◌then◌else◌}
+use Rattle.cs_zone.specs.Zone.{no_zone}
 use Rattle.cs_crontab.specs.Crontab.{Table as Crontab}
 use Rattle.cs_anacrontab.specs.Anacrontab.{Table as Anacrontab}
 use Rattle.cs_history.specs.declared.mode.Mode.TheVariants.{Plain}
@@ -28,6 +29,8 @@ plain_plan crontab anacrontab max = record {
   hours = record { from = 0; to = MINUTES_OF_DAY };
   pass = None;
   offset = pos 0;
+  zone = no_zone;
+  clocks = None;
   left_out = [];
   defaulted = 0;
   guessed = 0;

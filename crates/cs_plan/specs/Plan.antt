@@ -3,7 +3,8 @@ use Rattle.std.specs.Prelude.{◌≡◌, ◌≢◌, ℕ, ℤ, unsigned_abs, ◌-
 use Rattle.std.specs.List.{range_with_len}
 use Rattle.cs_civil.specs.Calendar.{kind}
 use Rattle.cs_civil.specs.Hours.{CatchUpHours, ArePossible}
-use Rattle.cs_schedule.specs.Times.{is_due as is_time_due}
+use Rattle.cs_zone.specs.Starts.{is_due as is_time_due}
+use Rattle.cs_zone.specs.Zone.{Zone}
 use Rattle.cs_crontab.specs.Crontab.{Table as Crontab, CommandLine}
 use Rattle.cs_crontab.specs.declared.table.When.{When}
 use Rattle.cs_crontab.specs.declared.table.When.TheVariants.{At, Reboot}
@@ -15,6 +16,7 @@ use Rattle.cs_anacrontab.specs.declared.limits.TheConstants.{MAX_JOBS}
 use Rattle.cs_history.specs.Plan.{Plan}
 use Rattle.cs_history.specs.declared.mode.Mode.TheVariants.{Plain}
 use Rattle.cs_plan.specs.Job.{DeclaredJob, IsPossible}
+use Rattle.cs_plan.specs.declared.clocks.ClockNames.{ClockNames}
 use Rattle.cs_civil.specs.declared.minute.TheConstants.{MINUTES_OF_DAY}
 use Rattle.cs_plan.specs.declared.limits.TheConstants.{MAX_CAPACITY, MAX_GROUPS, MAX_OFFSET}
 
@@ -25,9 +27,11 @@ pub record DeclaredGroup : Type 0 where
 
 -- The jobs are those of the crontab, then those of the anacrontab, each in order of line. The
 -- crontab has none of the lines that are left out. The pass minute is one of the day, and the
--- offset counts minutes east of UTC. So many jobs have the default, and so many entries are a
--- guess. An untimed line has an entry with its command and no schedule, while another line has that
--- command too. A doubled member stands twice in an object of the declarations' text.
+-- offset counts minutes east of UTC. Commands are due by the clock of the zone, which is seen from
+-- the clock at this offset; if the declarations name a zone, both clocks have names. So many jobs
+-- have the default, and so many entries are a guess. An untimed line has an entry with its command
+-- and no schedule, while another line has that command too. A doubled member stands twice in an
+-- object of the declarations' text.
 pub record Declared : Type 0 where
   pub crontab : Crontab
   pub anacrontab : Anacrontab
@@ -37,6 +41,8 @@ pub record Declared : Type 0 where
   pub hours : CatchUpHours
   pub pass : Option ℕ
   pub offset : ℤ
+  pub zone : Zone
+  pub clocks : Option ClockNames
   pub left_out : List ℕ
   pub defaulted : ℕ
   pub guessed : ℕ
@@ -100,10 +106,11 @@ command_of d j = slice_index_or d.crontab.lines j no_command
 abbrev pub line_of : Declared → ℕ → JobLine
 line_of d j = slice_index_or d.anacrontab.lines (j - crons d) no_line
 
--- a command is due at the minutes of its schedule, by the kind of their day (crontab(5))
-abbrev pub is_due : When → ℕ → Bool
-is_due (At schedule) t = is_time_due schedule (kind (t / MINUTES_OF_DAY)) (t % MINUTES_OF_DAY)
-is_due Reboot t = false
+-- a command is due when cron(8) starts it by the clock of the zone, by the kind of the day
+abbrev pub is_due : Zone → When → ℕ → Bool
+is_due zone (At schedule) t =
+    is_time_due zone schedule (kind (t / MINUTES_OF_DAY)) (t % MINUTES_OF_DAY)
+is_due zone Reboot t = false
 
 abbrev pub as_plan : Declared → Plan
 as_plan d = record {
@@ -113,7 +120,7 @@ as_plan d = record {
   weight = λ j. (job_at d j).weight;
   group = λ j. (job_at d j).group;
   mode = λ j. (job_at d j).mode;
-  due = λ j t. is_due (command_of d j).when t;
+  due = λ j t. is_due d.zone (command_of d j).when t;
   owed = λ j stamp day. is_period_over (line_of d j).period stamp day;
   delay = λ j. (line_of d j).delay;
   groups = length d.groups;

@@ -28,6 +28,10 @@ fault_text faults.AmbiguousCommand = codes "17 AmbiguousCommand"
 fault_text faults.BadParts = codes "18 BadParts"
 fault_text faults.OtherSchedule = codes "19 OtherSchedule"
 fault_text faults.OtherParts = codes "20 OtherParts"
+fault_text faults.BadZone = codes "21 BadZone"
+fault_text faults.HoursInZone = codes "22 HoursInZone"
+fault_text faults.PassInZone = codes "23 PassInZone"
+fault_text faults.StartsTwice = codes "24 StartsTwice"
 
 -- entries are counted from 1; lines go by their numbers, jobs by their identifiers
 abbrev pub place_text : Place → List ℕ

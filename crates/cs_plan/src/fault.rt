@@ -52,6 +52,14 @@ pub enum DeclFault {
     OtherSchedule,
     /// The parts of an entry aren't those of its line's place in a gathered table.
     OtherParts,
+    /// The zone isn't a rule (POSIX, TZ) of this profile.
+    BadZone,
+    /// Catch-up hours are declared beside a zone, and aren't all hours.
+    HoursInZone,
+    /// A pass minute is declared beside a zone.
+    PassInZone,
+    /// After clocks go forward, cron starts the line twice in one minute.
+    StartsTwice,
 }
 
 impl DeclFault {
@@ -80,6 +88,10 @@ impl DeclFault {
             DeclFault::BadParts => "18 BadParts",
             DeclFault::OtherSchedule => "19 OtherSchedule",
             DeclFault::OtherParts => "20 OtherParts",
+            DeclFault::BadZone => "21 BadZone",
+            DeclFault::HoursInZone => "22 HoursInZone",
+            DeclFault::PassInZone => "23 PassInZone",
+            DeclFault::StartsTwice => "24 StartsTwice",
         }
     }
 }

@@ -1,6 +1,7 @@
 //! Holds a plan: a crontab, an anacrontab, and what an operator declares of their jobs.
 #![tactic(auto)]
 
+mod clocks;
 mod fault;
 mod group;
 mod job;
@@ -10,6 +11,7 @@ mod plain;
 mod plan;
 mod reboot;
 
+pub use clocks::ClockNames;
 pub use fault::{DeclError, DeclFault, Place};
 pub use group::Group;
 pub use job::Job;

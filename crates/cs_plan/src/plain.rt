@@ -14,6 +14,7 @@ use cs_anacrontab::Anacrontab;
 use cs_civil::{Hours, MINUTES_OF_DAY, Sequence};
 use cs_crontab::Crontab;
 use cs_history::Mode;
+use cs_zone::Zone;
 use std::alloc::{AllocError, Global};
 
 fn push_plain_jobs(jobs: &mut Sequence<Job>, count: usize, max: u16) -> Result<(), AllocError>
@@ -74,6 +75,8 @@ fn plain_plan(
         hours,
         None,
         0,
+        Zone::none(),
+        None,
         left_out,
         0,
         0,

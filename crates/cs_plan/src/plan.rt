@@ -5,12 +5,14 @@ ghost use Rattle.cs_civil.specs.declared.minute.TheConstants.{MINUTES_OF_DAY};
 ghost use Rattle.cs_plan.specs.declared.limits.TheConstants.{MAX_MINUTES, MAX_CAPACITY, MAX_OFFSET};
 ghost use Rattle.cs_plan.specs.declared.limits.TheConstants.{MAX_GROUPS};
 
+use crate::clocks::{ClockNames, copy_clocks};
 use crate::group::Group;
 use crate::job::Job;
 use cs_anacrontab::Anacrontab;
 use cs_civil::{Bytes, Hours, Sequence};
 use cs_crontab::Crontab;
 use cs_history::Mode;
+use cs_zone::Zone;
 use std::alloc::{AllocError, Global};
 use std::marker::Model;
 
@@ -28,6 +30,8 @@ pub struct Plan {
     hours: Hours,
     pass: Option<u16>,
     offset: i16,
+    zone: Zone,
+    clocks: Option<ClockNames>,
     left_out: Sequence<u32>,
     defaulted: usize,
     guessed: usize,
@@ -49,6 +53,8 @@ impl Model for Plan {
       hours = a.hours;
       pass = a.pass;
       offset = a.offset;
+      zone = a.zone;
+      clocks = a.clocks;
       left_out = a.left_out;
       defaulted = a.defaulted;
       guessed = a.guessed;
@@ -66,6 +72,8 @@ impl Model for Plan {
           hours = a.hours;
           pass = a.pass;
           offset = a.offset;
+          zone = a.zone;
+          clocks = a.clocks;
           left_out = a.left_out;
           defaulted = a.defaulted;
           guessed = a.guessed;
@@ -107,6 +115,8 @@ impl Plan {
         hours: Hours,
         pass: Option<u16>,
         offset: i16,
+        zone: Zone,
+        clocks: Option<ClockNames>,
         left_out: Sequence<u32>,
         defaulted: usize,
         guessed: usize,
@@ -122,6 +132,8 @@ impl Plan {
           hours = hours;
           pass = pass;
           offset = offset;
+          zone = zone;
+          clocks = clocks;
           left_out = left_out;
           defaulted = defaulted;
           guessed = guessed;
@@ -138,6 +150,8 @@ impl Plan {
               hours = hours;
               pass = pass;
               offset = offset;
+              zone = zone;
+              clocks = clocks;
               left_out = left_out;
               defaulted = defaulted;
               guessed = guessed;
@@ -154,6 +168,8 @@ impl Plan {
             hours,
             pass,
             offset,
+            zone,
+            clocks,
             left_out,
             defaulted,
             guessed,
@@ -175,6 +191,8 @@ impl Plan {
             hours: self.hours,
             pass: self.pass,
             offset: self.offset,
+            zone: self.zone,
+            clocks: copy_clocks(alloc, &self.clocks)?,
             left_out: Sequence::from_slice(alloc, self.left_out.as_slice())?,
             defaulted: self.defaulted,
             guessed: self.guessed,
@@ -294,6 +312,21 @@ impl Plan {
         ensures in_range { unsigned_abs self.now.offset ≤ MAX_OFFSET }
     {
         self.offset
+    }
+
+    /// Returns the zone by whose clock the lines are due; [`Zone::none`] if the clock keeps the
+    /// offset all year.
+    pub fn zone(&self) -> &Zone
+        ensures { result.now ≡ self.now.zone }
+    {
+        &self.zone
+    }
+
+    /// Returns the names of both clocks of the zone, if the declarations name a zone.
+    pub fn clocks(&self) -> &Option<ClockNames>
+        ensures { result.now ≡ self.now.clocks }
+    {
+        &self.clocks
     }
 
     /// Returns the numbers of the lines that are left out of the crontab, in order of line.

@@ -1,6 +1,4 @@
-use crate::facts::Facts;
 use cs_wait::Piece;
-use std::alloc::{AllocError, Global};
 
 /// The classes of a certificate to be.
 #[derive(Drop)]
@@ -24,21 +22,4 @@ pub struct DayClass {
 pub struct GroupBound {
     pub group: u8,
     pub pieces: Vec<Piece>,
-}
-
-impl Classing {
-    /// Returns a class for each profile, in which nothing waits. The only error is out of memory.
-    pub fn of_profiles(alloc: Global, facts: &Facts) -> Result<Classing, AllocError> {
-        let mut classes = Vec::new(alloc);
-        for profile in 0..facts.first_kinds().len() {
-            classes.push(DayClass {
-                profile: u16::try_from(profile).unwrap_or(u16::MAX),
-                bounds: Vec::new(alloc),
-            })?;
-        }
-        Ok(Classing {
-            class_of: Vec::from_slice(alloc, facts.profiles())?,
-            classes,
-        })
-    }
 }

@@ -1,3 +1,5 @@
+use crate::clock::Clock;
+use crate::due::{Due, numbers_by_kind};
 use crate::kinds;
 use crate::task::{Task, schedule_of, tasks_of};
 use cs_civil::DayKind;
@@ -11,36 +13,52 @@ pub struct Facts {
     kinds: Vec<DayKind>,
     successors: Vec<[u16; 2]>,
     profiles: Vec<u16>,
-    due: Vec<Vec<u16>>,
-    first_kinds: Vec<DayKind>,
+    due: Vec<Vec<Due>>,
 }
 
-fn first_kinds(
+/// For each cron job the numbers of its lists by kind. Adds the lists to the tasks.
+fn rows_of(
     alloc: Global,
+    plan: &Plan,
+    clock: &Clock,
     kinds: &[DayKind],
-    profiles: &[u16],
-) -> Result<Vec<DayKind>, AllocError> {
-    let mut first: Vec<DayKind> = Vec::new(alloc);
-    for (kind, profile) in kinds.iter().zip(profiles) {
-        if usize::from(*profile) == first.len() {
-            first.push(*kind)?;
+    tasks: &mut [Task],
+) -> Result<Vec<Vec<u16>>, AllocError> {
+    let mut rows = Vec::new(alloc);
+    for (number, task) in tasks.iter_mut().enumerate() {
+        let row = match schedule_of(plan, number) {
+            Some(schedule) => numbers_by_kind(alloc, clock, schedule, kinds, &mut task.lists)?,
+            None => Vec::new(alloc),
+        };
+        rows.push(row)?;
+    }
+    Ok(rows)
+}
+
+fn due_on(alloc: Global, rows: &[Vec<u16>], kind: usize) -> Result<Vec<Due>, AllocError> {
+    let mut due = Vec::new(alloc);
+    for (job, numbers) in rows.iter().enumerate() {
+        let number = numbers.get(kind).copied().unwrap_or(0);
+        if number > 0 {
+            due.push(Due {
+                job: u16::try_from(job).unwrap_or(u16::MAX),
+                list: number - 1,
+            })?;
         }
     }
-    Ok(first)
+    Ok(due)
 }
 
-fn due_lists(alloc: Global, plan: &Plan, kinds: &[DayKind]) -> Result<Vec<Vec<u16>>, AllocError> {
+fn due_lists(
+    alloc: Global,
+    rows: &[Vec<u16>],
+    profiles: &[u16],
+) -> Result<Vec<Vec<Due>>, AllocError> {
     let mut lists = Vec::new(alloc);
-    for kind in kinds {
-        let mut due = Vec::new(alloc);
-        for number in 0..plan.crons() {
-            if let Some(schedule) = schedule_of(plan, number) {
-                if schedule.is_day_due(*kind) {
-                    due.push(u16::try_from(number).unwrap_or(u16::MAX))?;
-                }
-            }
+    for (kind, profile) in profiles.iter().enumerate() {
+        if usize::from(*profile) == lists.len() {
+            lists.push(due_on(alloc, rows, kind)?)?;
         }
-        lists.push(due)?;
     }
     Ok(lists)
 }
@@ -48,19 +66,19 @@ fn due_lists(alloc: Global, plan: &Plan, kinds: &[DayKind]) -> Result<Vec<Vec<u1
 impl Facts {
     /// Returns what there is to know of a plan. The only error is out of memory.
     pub fn of(alloc: Global, plan: &Plan) -> Result<Facts, AllocError> {
-        let tasks = tasks_of(alloc, plan)?;
+        let mut tasks = tasks_of(alloc, plan)?;
         let kinds = kinds::kinds(alloc)?;
         let successors = kinds::successors(alloc, kinds.as_slice())?;
-        let profiles = kinds::profiles(alloc, plan, kinds.as_slice())?;
-        let first_kinds = first_kinds(alloc, kinds.as_slice(), profiles.as_slice())?;
-        let due = due_lists(alloc, plan, first_kinds.as_slice())?;
+        let clock = Clock::of(alloc, *plan.zone(), kinds.as_slice(), successors.as_slice())?;
+        let rows = rows_of(alloc, plan, &clock, kinds.as_slice(), tasks.as_mut_slice())?;
+        let profiles = kinds::profiles(alloc, tasks.as_slice(), rows.as_slice(), kinds.len())?;
+        let due = due_lists(alloc, rows.as_slice(), profiles.as_slice())?;
         Ok(Facts {
             tasks,
             kinds,
             successors,
             profiles,
             due,
-            first_kinds,
         })
     }
 
@@ -81,18 +99,14 @@ impl Facts {
     }
 
     /// Returns the profile of each kind, by number. Kinds have the same profile exactly if the same
-    /// cron jobs are due on them. Profiles are numbered from 0, in order of their first kind.
+    /// cron jobs are due on them, at the same minutes. Profiles are numbered from 0, in order of
+    /// their first kind.
     pub fn profiles(&self) -> &[u16] {
         self.profiles.as_slice()
     }
 
     /// Returns the cron jobs that are due on days of each profile, rising.
-    pub fn due(&self) -> &[Vec<u16>] {
+    pub fn due(&self) -> &[Vec<Due>] {
         self.due.as_slice()
-    }
-
-    /// Returns the first kind of each profile.
-    pub fn first_kinds(&self) -> &[DayKind] {
-        self.first_kinds.as_slice()
     }
 }

@@ -1,7 +1,5 @@
-use crate::task::schedule_of;
+use crate::task::Task;
 use cs_civil::{DayKind, all_kinds, kind_number, next_kinds};
-use cs_plan::Plan;
-use cs_schedule::Schedule;
 use std::alloc::{AllocError, Global};
 
 pub(crate) fn kinds(alloc: Global) -> Result<Vec<DayKind>, AllocError> {
@@ -28,21 +26,23 @@ pub(crate) fn successors(alloc: Global, kinds: &[DayKind]) -> Result<Vec<[u16; 2
     Ok(successors)
 }
 
-/// Splits the sorts of days by whether this job is due: kinds get one sort exactly if they had one,
-/// and the job is due on both or on neither. Sorts are numbered from 0, in order of their first
-/// kind.
+/// Splits the sorts of days by this job's minutes: kinds get one sort exactly if they had one, and
+/// the job has the same list of minutes on both, or none. Sorts are numbered from 0, in order of
+/// their first kind.
 fn told_apart(
     alloc: Global,
-    kinds: &[DayKind],
     sorts: &[u16],
-    schedule: &Schedule,
+    numbers: &[u16],
+    lists: usize,
 ) -> Result<Vec<u16>, AllocError> {
-    let mut seen: Vec<Option<u16>> = Vec::from_elem(alloc, None, 2 * kinds.len())?;
+    let choices = lists.saturating_add(1);
+    let places = choices.saturating_mul(sorts.len());
+    let mut seen: Vec<Option<u16>> = Vec::from_elem(alloc, None, places)?;
     let mut count: u16 = 0;
     let mut finer = Vec::new(alloc);
-    for (kind, sort) in kinds.iter().zip(sorts) {
-        let is_due = usize::from(schedule.is_day_due(*kind));
-        let place = usize::from(*sort).saturating_mul(2).saturating_add(is_due);
+    for (sort, number) in sorts.iter().zip(numbers) {
+        let first = usize::from(*sort).saturating_mul(choices);
+        let place = first.saturating_add(usize::from(*number));
         let number = match seen.get(place) {
             Some(Some(number)) => *number,
             _ => count,
@@ -58,15 +58,18 @@ fn told_apart(
     Ok(finer)
 }
 
+/// The profile of each kind of day. `rows` has the number of each cron job's list by kind.
 pub(crate) fn profiles(
     alloc: Global,
-    plan: &Plan,
-    kinds: &[DayKind],
+    tasks: &[Task],
+    rows: &[Vec<u16>],
+    kinds: usize,
 ) -> Result<Vec<u16>, AllocError> {
-    let mut profiles = Vec::from_elem(alloc, 0, kinds.len())?;
-    for number in 0..plan.crons() {
-        if let Some(schedule) = schedule_of(plan, number) {
-            profiles = told_apart(alloc, kinds, profiles.as_slice(), schedule)?;
+    let mut profiles = Vec::from_elem(alloc, 0, kinds)?;
+    for (task, numbers) in tasks.iter().zip(rows) {
+        if !numbers.is_empty() {
+            let lists = task.lists.len();
+            profiles = told_apart(alloc, profiles.as_slice(), numbers.as_slice(), lists)?;
         }
     }
     Ok(profiles)

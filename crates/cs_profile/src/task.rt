@@ -1,3 +1,4 @@
+use crate::due::Due;
 use cs_crontab::When;
 use cs_history::Mode;
 use cs_plan::Plan;
@@ -19,14 +20,23 @@ pub struct Task {
     pub max: u16,
     /// For how many minutes it is put off in its pass; 0 for a cron job.
     pub delay: u32,
-    /// At which minutes it is due on each of its days, rising. An anacron job has none.
-    pub minutes: Vec<u16>,
+    /// At which minutes it is due on its days, rising: a list for all days on which they are the
+    /// same, by the zone's clock. None is empty. An anacron job has none.
+    pub lists: Vec<Vec<u16>>,
 }
 
 impl Task {
     /// Returns whether it is of mode try: a run that finds its lock held doesn't start.
     pub fn is_try(&self) -> bool {
         self.mode == Mode::Try
+    }
+
+    /// Returns at which minutes it is due on such days, rising.
+    pub fn minutes(&self, due: Due) -> &[u16] {
+        match self.lists.get(usize::from(due.list)) {
+            Some(list) => list.as_slice(),
+            None => &[],
+        }
     }
 }
 
@@ -35,16 +45,6 @@ pub(crate) fn schedule_of(plan: &Plan, number: usize) -> Option<&Schedule> {
         When::At(schedule) => Some(schedule),
         When::Reboot => None,
     }
-}
-
-fn minutes_of(alloc: Global, plan: &Plan, number: usize) -> Result<Vec<u16>, AllocError> {
-    let mut minutes = Vec::new(alloc);
-    if let Some(schedule) = schedule_of(plan, number) {
-        for minute in schedule.times().iter() {
-            minutes.push(minute)?;
-        }
-    }
-    Ok(minutes)
 }
 
 pub(crate) fn tasks_of(alloc: Global, plan: &Plan) -> Result<Vec<Task>, AllocError> {
@@ -64,7 +64,7 @@ pub(crate) fn tasks_of(alloc: Global, plan: &Plan) -> Result<Vec<Task>, AllocErr
             weight: job.weight(),
             max: job.max(),
             delay,
-            minutes: minutes_of(alloc, plan, number)?,
+            lists: Vec::new(alloc),
         })?;
     }
     Ok(tasks)

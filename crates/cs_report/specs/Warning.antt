@@ -8,6 +8,7 @@ use Rattle.cs_anacrontab.specs.Anacrontab.{Table as JobTable}
 use Rattle.cs_crontab.specs.Crontab.{CommandLine, Table}
 use Rattle.cs_plan.specs.Job.{DeclaredJob}
 use Rattle.cs_plan.specs.Plan.{Declared, as_plan}
+use Rattle.cs_plan.specs.declared.clocks.ClockNames.{ClockNames}
 use Rattle.cs_history.specs.Plan.{exclusive_group, is_group, is_skip}
 use Rattle.cs_report.specs.User.{is_behind_user}
 use Rattle.cs_table.specs.Setting.{SettingLine}
@@ -122,12 +123,22 @@ untimed_warning None = []
 untimed_warning (Some number) = codes "warning: another line has the command of line "
     ++ (decimal number ++ codes ": add \"when\" to its entry, as cronsafe draft does\n")
 
+abbrev pub clocks_text : List ℕ → List ℕ → List ℕ
+clocks_text plan other = codes "note: times are by "
+    ++ (plan ++ (codes " all year; those in brackets are by " ++ (other ++ codes "\n")))
+
+-- of a plan whose zone has summer time
+abbrev pub zone_note : Option ClockNames → ℕ → List ℕ
+zone_note None saving = []
+zone_note (Some names) saving = if saving == 0 then [] else clocks_text names.plan names.other
+
 -- the notes in their order: a member that stands twice, a line that shares its command, the lines
 -- that the plan leaves out, that it has no job, how many jobs have the default, how many longest
--- times are guesses, and that hardly anything is decided
+-- times are guesses, that hardly anything is decided, and by which clock times are
 abbrev pub plan_notes : Declared → List ℕ
 plan_notes d = doubled_warning d.doubled
     ++ (untimed_warning d.untimed
     ++ (flat_map left_out_note d.left_out
     ++ (no_job_note d.left_out (length d.jobs)
-    ++ (default_note d.defaulted ++ (guess_note d.guessed ++ nothing_note d)))))
+    ++ (default_note d.defaulted
+    ++ (guess_note d.guessed ++ (nothing_note d ++ zone_note d.clocks d.zone.saving))))))

@@ -4,7 +4,8 @@ ghost use Rattle.std.specs.List.{count_by, find, flat_map, list_any};
 ghost use Rattle.std.specs.Option.{option_map};
 ghost use Rattle.cs_history.specs.Plan.{is_group};
 ghost use Rattle.cs_report.specs.User.{is_behind_user};
-ghost use Rattle.cs_report.specs.Warning.{begins_with_number, decides_nothing, default_note};
+ghost use Rattle.cs_report.specs.Warning.{begins_with_number, clocks_text, decides_nothing};
+ghost use Rattle.cs_report.specs.Warning.{default_note, zone_note};
 ghost use Rattle.cs_report.specs.Warning.{doubled_warning, guess_note, is_at_stake, is_contended};
 ghost use Rattle.cs_report.specs.Warning.{is_unheeded, left_out_note, no_job_note, nothing_note};
 ghost use Rattle.cs_report.specs.Warning.{nothing_text, number_warning, number_warning_of};
@@ -16,7 +17,7 @@ use crate::words::is_number;
 use cs_anacrontab::Anacrontab;
 use cs_civil::{Bytes, push_number};
 use cs_crontab::{Crontab, Line};
-use cs_plan::{Job, Plan};
+use cs_plan::{ClockNames, Job, Plan};
 use cs_table::Setting;
 use cs_table::text::word;
 use std::alloc::{AllocError, Global};
@@ -338,8 +339,51 @@ fn push_untimed(alloc: Global, text: &mut Vec<u8>, untimed: Option<u32>) -> Resu
     }
 }
 
+fn push_two_names(
+    text: &mut Vec<u8>,
+    front: &[u8],
+    name: &[u8],
+    middle: &[u8],
+    other: &[u8],
+    end: &[u8],
+) -> Result<(), AllocError>
+    ensures { OnOk result (text.new.items ≡ text.old.items
+        ++ (front.now ++ (name.now ++ (middle.now ++ (other.now ++ end.now))))) }
+{
+    push_both(text, front, name)?;
+    text.extend_from_slice(middle)?;
+    push_both(text, other, end)
+}
+
+fn push_clocks(text: &mut Vec<u8>, plan: &[u8], other: &[u8]) -> Result<(), AllocError>
+    ensures { OnOk result (text.new.items ≡ text.old.items ++ clocks_text plan.now other.now) }
+{
+    push_two_names(
+        text,
+        b"note: times are by ",
+        plan,
+        b" all year; those in brackets are by ",
+        other,
+        b"\n",
+    )
+}
+
+fn push_zone(text: &mut Vec<u8>, clocks: &Option<ClockNames>, saving: u8) -> Result<(), AllocError>
+    ensures { OnOk result (text.new.items ≡ text.old.items ++ zone_note clocks.now saving) }
+{
+    match clocks {
+        Some(names) if saving > 0 => push_clocks(
+            text,
+            names.plan.as_slice(),
+            names.other.as_slice(),
+        ),
+        _ => Ok(()),
+    }
+}
+
 /// The notes on a plan, a line each: what seems wrong in its declarations, which lines it leaves
-/// out, how many jobs have the default or a draft's guess, and that no two jobs can conflict.
+/// out, how many jobs have the default or a draft's guess, that no two jobs can conflict, and by
+/// which clock times are if its zone has summer time.
 pub fn plan_notes(alloc: Global, plan: &Plan) -> Result<Bytes, AllocError>
     ensures { IfOk result (λ text. text ≡ plan_notes plan.now) }
 {
@@ -351,5 +395,6 @@ pub fn plan_notes(alloc: Global, plan: &Plan) -> Result<Bytes, AllocError>
     push_default(alloc, &mut text, plan.defaulted())?;
     push_guess(alloc, &mut text, plan.guessed())?;
     push_nothing_note(&mut text, plan)?;
+    push_zone(&mut text, plan.clocks(), plan.zone().saving())?;
     Ok(Bytes::from_vec(text))
 }

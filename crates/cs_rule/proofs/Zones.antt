@@ -1,6 +1,6 @@
 -- Jumps that are no fault make a zone.
-use Rattle.std.proofs.Common.{◌≡◌, ℕ, ℤ, pos, ◌+◌, ◌≤◌, ◌+ℤ◌, ◌-ℤ◌, ◌*ℤ◌, false, arith, unsigned_abs, int_lt, if◌then◌else◌}
-use Rattle.std.proofs.lemmas.Int.{ints}
+use Rattle.std.proofs.Common.{◌≡◌, ℕ, ℤ, pos, ◌+◌, ◌≤◌, ◌+ℤ◌, ◌-ℤ◌, ◌*ℤ◌, false, arith, unsigned_abs, int_lt, int_div, if◌then◌else◌}
+use Rattle.std.proofs.lemmas.Int.{ints, quot-rem, rem_below}
 use Rattle.std.proofs.lemmas.Bool.Decides.{nat_tests}
 use Rattle.jiff_tz.specs.declared.posix.Day.TheVariants.{WeekdayOfMonth}
 use Rattle.cs_rule.specs.Faults.{is_by_march}
@@ -25,3 +25,7 @@ saving_fits p o a b fit is_p is_o = omega (arith, ints)
 -- b is n ahead of a or behind it
 pub ahead_or_behind : (a b : ℤ) (n : ℕ) → n ≡ unsigned_abs (b -ℤ a) → b ≡ (if int_lt a b then a +ℤ pos n else a -ℤ pos n)
 ahead_or_behind a b n is_n = grind (arith, ints)
+
+-- seconds that are so many minutes
+pub are_minutes : (seconds minutes : ℤ) → seconds ≡ pos 60 *ℤ minutes → minutes ≡ int_div seconds (pos 60)
+are_minutes seconds minutes are = omega (arith, ints, quot-rem seconds (pos 60), rem_below seconds (pos 60))

@@ -1,3 +1,4 @@
 pub mod Rule
 pub mod Faults
 pub mod Parts
+pub mod Clocks

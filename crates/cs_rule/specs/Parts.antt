@@ -1,7 +1,7 @@
 -- What the parts of a rule show.
-use Rattle.std.specs.Prelude.{◌≡◌, ℤ, false}
+use Rattle.std.specs.Prelude.{◌≡◌, ℤ, false, Option}
 use Rattle.jiff_tz.specs.Abbreviation.{abbreviation_text}
-use Rattle.jiff_tz.specs.PosixText.{DstText}
+use Rattle.jiff_tz.specs.PosixText.{DstText, TzText}
 use Rattle.jiff_tz.specs.declared.posix.Day.{Day}
 use Rattle.jiff_tz.specs.declared.posix.Day.TheVariants.{WeekdayOfMonth}
 use Rattle.cs_rule.specs.Faults.{has_seconds, is_by_march, is_far, is_outside}
@@ -22,6 +22,14 @@ dst_of e start end = record {
   seconds = e.seconds;
   start = at start;
   finish = at end;
+}
+
+-- the rule with this standard time
+abbrev pub rule_of : East → Option DstText → TzText
+rule_of e dst = record {
+  std_name = abbreviation_text e.name;
+  std_seconds = e.seconds;
+  dst = dst;
 }
 
 -- whole minutes, not far from UTC

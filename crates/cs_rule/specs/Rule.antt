@@ -5,7 +5,7 @@ use Rattle.jiff_tz.specs.PosixText.{DstText, TzText}
 use Rattle.jiff_tz.specs.declared.posix.Day.{Day}
 use Rattle.jiff_tz.specs.declared.posix.Day.TheVariants.{JulianOne, JulianZero, WeekdayOfMonth}
 use Rattle.cs_zone.specs.Wall.{days_of_months}
-use Rattle.cs_zone.specs.Zone.{Jump, Zone}
+use Rattle.cs_zone.specs.Zone.{Jump, Zone, no_zone}
 
 -- the minutes by which the plan's clock is ahead of UTC, the zone seen from it, the plan's clock's
 -- name, and that of the other clock
@@ -82,8 +82,11 @@ IsSummerClock std d c =
     (HasClocks (summer d) std c × HasJumps d.finish d.start c.zone)
     (HasClocks std (summer d) c × HasJumps d.start d.finish c.zone)
 
--- The rule says this. Without daylight saving time both clocks are the same, and the saving is 0.
+-- the clock of a zone without it: both clocks are the same
+abbrev pub IsPlainClock : Side → Clock → Type 0
+IsPlainClock std c = HasClocks std std c × (c.zone ≡ no_zone)
+
+-- The rule says this.
 abbrev pub IsClock : TzText → Clock → Type 0
 IsClock r c =
-    MatchOption r.dst (HasClocks (standard r) (standard r) c)
-    (λ d. IsSummerClock (standard r) d c)
+    MatchOption r.dst (IsPlainClock (standard r) c) (λ d. IsSummerClock (standard r) d c)

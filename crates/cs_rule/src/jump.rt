@@ -3,6 +3,7 @@ ghost use Rattle.std.specs.Prelude.{◌≡◌, ◌<◌, ◌≤◌, ◌+◌, true
 ghost use Rattle.jiff_tz.specs.PosixText.{day_time_view};
 ghost use Rattle.jiff_tz.specs.declared.posix.Day.TheVariants.{WeekdayOfMonth};
 ghost use Rattle.cs_zone.specs.Zone.{IsJump};
+ghost use Rattle.cs_rule.specs.Clocks.{jump_of};
 ghost use Rattle.cs_rule.specs.Faults.{has_seconds, is_outside, is_by_march, is_numbered};
 ghost use Rattle.cs_rule.specs.Parts.{IsSound, at};
 ghost use Rattle.cs_rule.specs.Rule.{IsJumpAt, after_march, earliest};
@@ -66,7 +67,8 @@ fn earliest(jump: Named) -> u16
 fn jump_of(jump: Named) -> Jump
     requires whole { has_seconds jump.time ≡ false }
     requires inside { is_outside jump.time ≡ false }
-    ensures value { IsJumpAt (at jump) result }
+    ensures value { result ≡ jump_of (at jump) }
+    ensures at { IsJumpAt (at jump) result }
     ensures jump { IsJump result }
 {
     let minute = (jump.time.unsigned_abs() / 60) as u16;
@@ -82,8 +84,10 @@ pub(crate) fn zone_of(is_ahead: bool, saving: u8, leaves: Named, returns: Named)
     requires order { after_march leaves.month + 2 ≤ after_march returns.month }
     ensures ahead { result.ahead ≡ is_ahead }
     ensures saving { result.saving ≡ saving }
-    ensures leaves { IsJumpAt (at leaves) result.leaves }
-    ensures returns { IsJumpAt (at returns) result.returns }
+    ensures leaves { result.leaves ≡ jump_of (at leaves) }
+    ensures returns { result.returns ≡ jump_of (at returns) }
+    ensures leaves_at { IsJumpAt (at leaves) result.leaves }
+    ensures returns_at { IsJumpAt (at returns) result.returns }
 {
     Zone::new(is_ahead, saving, jump_of(leaves), jump_of(returns)).unwrap()
 }

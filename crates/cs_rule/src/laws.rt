@@ -1,5 +1,6 @@
 ghost use Rattle.std.specs.Prelude.{pos, true, false, IsSomeAnd, codes};
 ghost use Rattle.jiff_tz.specs.PosixReader.{read_whole};
+ghost use Rattle.cs_zone.specs.Zone.{no_zone};
 ghost use Rattle.cs_rule.specs.Rule.{IsClock};
 
 /// Lemma. What the rules of Berlin, Sydney and UTC say. In Sydney the plan's clock shows summer time.
@@ -32,12 +33,7 @@ pub fn rules()
     ensures utc { IsSomeAnd (read_whole (codes "UTC0"))
         (λ rule. IsClock rule (record {
           offset = pos 0;
-          zone = record {
-            ahead = true;
-            saving = 0;
-            leaves = record { earliest = 7; weekday = 0; minute = 0 };
-            returns = record { earliest = 200; weekday = 0; minute = 0 };
-          };
+          zone = no_zone;
           plan_name = codes "UTC";
           other_name = codes "UTC";
         })) }

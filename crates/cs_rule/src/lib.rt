@@ -12,4 +12,4 @@ mod read;
 pub use clock::Clock;
 pub use fault::RuleFault;
 pub use laws::rules;
-pub use read::read_rule;
+pub use read::{clock_in, read_rule};

@@ -1,15 +1,16 @@
 //! Reads a zone's rule.
-ghost use Rattle.std.specs.Prelude.{◌≡◌, ◌≤◌, ◌<◌, ◌+◌, ◌*ℤ◌, ◌-ℤ◌, ◌+ℤ◌, if◌then◌else◌, pos, true, false, IfOk, IfErr, IsSomeAnd, unsigned_abs, ◌||◌};
+ghost use Rattle.std.specs.Prelude.{◌≡◌, ◌≤◌, ◌<◌, ◌+◌, ◌*ℤ◌, ◌-ℤ◌, ◌+ℤ◌, if◌then◌else◌, pos, true, false, Some, None, int_lt, IfOk, IfErr, IsSomeAnd, unsigned_abs};
 ghost use Rattle.jiff_tz.specs.PosixReader.{read_whole};
 ghost use Rattle.jiff_tz.specs.PosixText.{dst_view};
-ghost use Rattle.cs_rule.specs.Faults.{is_fault, has_seconds, is_far, is_at_clock, is_at_summer};
-ghost use Rattle.cs_rule.specs.Rule.{IsClock, IsSummerClock, IsJumpAt, HasClocks, after_march};
-ghost use Rattle.cs_rule.specs.Parts.{IsSound, IsWhole, at, dst_of, side};
+ghost use Rattle.cs_rule.specs.Clocks.{clock_between, clock_in, minutes_of, usable_clock};
+ghost use Rattle.cs_rule.specs.Faults.{is_fault, has_seconds, is_far, is_at_summer};
+ghost use Rattle.cs_rule.specs.Rule.{IsClock, IsPlainClock, IsSummerClock, IsJumpAt, HasClocks, after_march};
+ghost use Rattle.cs_rule.specs.Parts.{IsSound, IsWhole, at, dst_of, rule_of, side};
 
 use crate::jump::{after_march, is_by_march, is_outside, name_jump, zone_of};
 use crate::parts::{East, Named};
 use crate::{Clock, RuleFault};
-use cs_zone::{Jump, Zone};
+use cs_zone::Zone;
 use jiff_tz::posix::{Dst, TimeZone};
 
 fn has_seconds(seconds: i32) -> bool
@@ -24,10 +25,12 @@ fn is_far(seconds: i32) -> bool
     seconds.unsigned_abs() > 86_340
 }
 
+#[tactic(auto, using(crate::proofs::Zones::are_minutes), unfolding(crate::specs::Clocks::minutes_of))]
 fn minutes_of(seconds: i32) -> i16
     requires whole { has_seconds seconds ≡ false }
     requires near { is_far seconds ≡ false }
-    ensures value { seconds ≡ pos 60 *ℤ result }
+    ensures value { result ≡ minutes_of seconds }
+    ensures whole { seconds ≡ pos 60 *ℤ result }
     ensures bound { unsigned_abs result ≤ 1439 }
 {
     let minutes = (seconds.unsigned_abs() / 60) as i16;
@@ -40,6 +43,8 @@ fn saving_of(offset: i16, shown: i16) -> (bool, u8)
     requires { unsigned_abs (shown -ℤ offset) ≤ 120 }
     ensures value { shown
         ≡ (if result.0 then offset +ℤ pos result.1 else offset -ℤ pos result.1) }
+    ensures ahead { result.0 ≡ int_lt offset shown }
+    ensures saving { result.1 ≡ unsigned_abs (shown -ℤ offset) }
     ensures bound { result.1 ≤ 120 }
 {
     (offset < shown, shown.abs_diff(offset) as u8)
@@ -54,6 +59,8 @@ fn between(plan: East, other: East, leaves: Named, returns: Named) -> Clock
     requires returns { IsSound returns }
     requires apart { unsigned_abs (plan.seconds -ℤ other.seconds) ≤ 7200 }
     requires order { after_march leaves.month + 2 ≤ after_march returns.month }
+    ensures value { result
+        ≡ clock_between (side plan) (side other) (at leaves) (at returns) }
     ensures clock { HasClocks (side plan) (side other) result }
     ensures leaves { IsJumpAt (at leaves) result.zone.leaves }
     ensures returns { IsJumpAt (at returns) result.zone.returns }
@@ -70,6 +77,8 @@ fn summer_clock(standard: East, summer: East, start: Named, end: Named) -> Resul
     requires summer { IsWhole summer.seconds }
     requires whole { (has_seconds start.time ≡ false) × (has_seconds end.time ≡ false) }
     ensures ok { IfOk result (IsSummerClock (side standard) (dst_of summer start end)) }
+    ensures value { IfOk result (λ clock.
+        usable_clock (Some (rule_of standard (Some (dst_of summer start end)))) ≡ Some clock) }
     ensures err { IfErr result
         (λ fault. is_at_summer fault standard.seconds (dst_of summer start end) ≡ true) }
 {
@@ -97,8 +106,10 @@ fn summer_clock(standard: East, summer: East, start: Named, end: Named) -> Resul
 /// The clock of a zone with daylight saving time, as the rule says it.
 fn with_summer(standard: East, dst: Dst) -> Result<Clock, RuleFault>
     ensures ok { IfOk result (IsSummerClock (side standard) (dst_view dst)) }
-    ensures err { IfErr result (λ fault. (is_at_clock fault standard.seconds
-        || is_at_summer fault standard.seconds (dst_view dst)) ≡ true) }
+    ensures value { IfOk result (λ clock.
+        usable_clock (Some (rule_of standard (Some (dst_view dst)))) ≡ Some clock) }
+    ensures err { IfErr result (λ fault.
+        is_fault fault (Some (rule_of standard (Some (dst_view dst)))) ≡ true) }
 {
     let summer = East {
         name: dst.abbrev,
@@ -126,8 +137,10 @@ fn with_summer(standard: East, dst: Dst) -> Result<Clock, RuleFault>
 
 /// The clock of a zone without daylight saving time.
 fn without_summer(standard: East) -> Result<Clock, RuleFault>
-    ensures ok { IfOk result (HasClocks (side standard) (side standard)) }
-    ensures err { IfErr result (λ fault. is_at_clock fault standard.seconds ≡ true) }
+    ensures ok { IfOk result (IsPlainClock (side standard)) }
+    ensures value { IfOk result (λ clock.
+        usable_clock (Some (rule_of standard None)) ≡ Some clock) }
+    ensures err { IfErr result (λ fault. is_fault fault (Some (rule_of standard None)) ≡ true) }
 {
     if has_seconds(standard.seconds) {
         return Err(RuleFault::Seconds);
@@ -135,18 +148,19 @@ fn without_summer(standard: East) -> Result<Clock, RuleFault>
     if is_far(standard.seconds) {
         return Err(RuleFault::Offset);
     }
-    let (leaves, returns) = (Jump::new(7, 0, 0).unwrap(), Jump::new(200, 0, 0).unwrap());
-    let zone = Zone::new(true, 0, leaves, returns).unwrap();
     let offset = minutes_of(standard.seconds);
-    Ok(Clock::new(offset, zone, standard.name, standard.name))
+    Ok(Clock::new(offset, Zone::none(), standard.name, standard.name))
 }
 
 /// Reads a zone's rule (POSIX, TZ), which is in `TZ` or the last line of `/etc/localtime`, as a
 /// clock. Else returns the first fault, in the order of [`RuleFault`].
+#[tactic(auto, unfolding(crate::specs::Clocks::clock_in))]
 pub fn read_rule(text: &[u8]) -> Result<Clock, RuleFault>
     ensures ok { IfOk result
         (λ clock. IsSomeAnd (read_whole text.now) (λ rule. IsClock rule clock)) }
+    ensures value { IfOk result (λ clock. clock_in text.now ≡ Some clock) }
     ensures err { IfErr result (λ fault. is_fault fault (read_whole text.now) ≡ true) }
+    ensures none { IfErr result (λ fault. clock_in text.now ≡ None) }
 {
     let Ok(rule) = TimeZone::parse(text) else {
         return Err(RuleFault::NoRule);
@@ -159,4 +173,11 @@ pub fn read_rule(text: &[u8]) -> Result<Clock, RuleFault>
         Some(dst) => with_summer(standard, dst),
         None => without_summer(standard),
     }
+}
+
+/// Returns the clock that a zone's rule (POSIX, TZ) means, `None` if it can't be used.
+pub fn clock_in(text: &[u8]) -> Option<Clock>
+    ensures { result ≡ clock_in text.now }
+{
+    read_rule(text).ok()
 }

@@ -1,5 +1,5 @@
 -- What an order that was served comes to.
-use Rattle.std.proofs.Common.{◌≡◌, ◌≢◌, ◌⊎◌, ℕ, suc, ◌+◌, ◌<◌, ◌≤◌, List, [], ◌∷◌, ◌++◌, length, sum, arith, codes, inl, inr, Option, None, Some, refl, sym, ap, ◌∙◌, subst, fold}
+use Rattle.std.proofs.Common.{◌≡◌, ◌⊎◌, ℕ, ◌+◌, ◌≤◌, List, [], ◌∷◌, ◌++◌, length, sum, arith, codes, inl, inr, Option, None, Some, refl, sym, ap, ◌∙◌, subst, fold}
 use Rattle.std.specs.Prelude.{IfSome, slice_index_or}
 use Rattle.std.proofs.lemmas.List.Sums.{fold-append, sum_by-cons}
 use Rattle.cs_args.specs.Asked.{AskedRun}
@@ -13,7 +13,7 @@ use Rattle.cs_plan.specs.Plan.{Declared, as_plan}
 use Rattle.cs_daemon.specs.declared.end.Cause.{Cause}
 use Rattle.cs_daemon.specs.declared.end.Cause.TheVariants.{ClockBack, ClockFailed, HistoryFull, LastMinute, NoMemory, Stopped}
 use Rattle.cs_daemon.specs.declared.end.DaemonEnd.{DaemonEnd}
-use Rattle.cs_history.specs.History.{History, From, ◌▸◌, IsInTime, IsLegal, IsSafe, IsSafeNow}
+use Rattle.cs_history.specs.History.{History, From, ◌▸◌, IsSafe, IsSafeNow}
 use Rattle.cs_history.specs.Journal.{told}
 use Rattle.cs_history.specs.Plan.{Plan}
 use Rattle.cs_history.specs.declared.event.Event.{Event}
@@ -23,7 +23,7 @@ use Rattle.cs_keep.specs.Keeping.{IsKept, Keeping, plan_of}
 use Rattle.cs_keep.specs.declared.kept.Kept.{Kept}
 use Rattle.cs_serve.specs.Anew.{IsOrderOf}
 use Rattle.cs_files.specs.Ending.{Sink, Tries}
-use Rattle.cs_serve.specs.Serve.{HasRun, IsServed, IsServedBy, Tellings, cause_status, farewell, no_tellings}
+use Rattle.cs_serve.specs.Serve.{HasRun, IsServed, Tellings, cause_status, farewell, no_tellings}
 use Rattle.cs_serve.specs.Served.{AreApart, AreCounted, HasNoClock, IsDone, IsFull, IsOrdered, events_in}
 
 -- ---- the events

@@ -1,5 +1,5 @@
 -- Orders that come one after another.
-use Rattle.std.proofs.Common.{◌≡◌, ◌∙◌, ℕ, List, [], ap, inl, inr, refl, subst}
+use Rattle.std.proofs.Common.{◌≡◌, ◌∙◌, ℕ, List, ap, inl, inr, refl, subst}
 use Rattle.cs_device.specs.Telling.{Telling, nothing_told}
 use Rattle.cs_args.specs.Asked.{asked_run, AskedRun}
 use Rattle.cs_ruling.specs.declared.answer.Order.{Order}

@@ -4,7 +4,6 @@ use Rattle.cs_args.specs.Asked.{asked_run, AskedRun}
 use Rattle.cs_args.specs.declared.request.RunWords.{RunWords}
 use Rattle.cs_check.specs.Checked.{IsHeadline, plan_in}
 use Rattle.cs_io.specs.Files.{Failed}
-use Rattle.cs_files.specs.Response.{Ending}
 use Rattle.cs_ruling.specs.Answer.{AnswersRun}
 use Rattle.cs_ruling.specs.declared.answer.Answer.{Answer}
 use Rattle.cs_ruling.specs.declared.answer.Answer.TheVariants.{Ends, Runs}

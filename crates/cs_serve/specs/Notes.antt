@@ -2,7 +2,6 @@
 use Rattle.std.specs.Prelude.{ℕ, Bool, not, ◌&&◌, ◌||◌, if◌then◌else◌, List, [], ◌++◌, codes, drop, flat_map, length, map, slice_get, slice_index_or, ◌≡◌, Option, None, Some, option_and_then, option_map}
 use Rattle.std.specs.List.{AllZip}
 use Rattle.cs_crontab.specs.Crontab.{CommandLine}
-use Rattle.cs_crontab.specs.declared.table.When.{When}
 use Rattle.cs_crontab.specs.declared.table.When.TheVariants.{At, Reboot}
 use Rattle.cs_jobs.specs.Names.{job_front, job_name}
 use Rattle.cs_plan.specs.Plan.{Declared, as_plan, job_at}
@@ -36,16 +35,22 @@ command_of d job = slice_index_or
     (map (λ line. line.command) d.crontab.lines ++ map (λ line. line.command) d.anacrontab.lines)
     job []
 
+-- the name of the clock by which the zone goes in the other part of the year
+abbrev pub other_clock : Declared → List ℕ
+other_clock d = elim d.clocks [ Some clocks ↦ clocks.other | None ↦ [] ]
+
 -- commands of a gathered crontab have owners
 abbrev pub user_of : List Owner → ℕ → Option (List ℕ)
 user_of owners job = option_map (λ owner. owner.user) (slice_get owners job)
 
--- what the names of a job's runs begin with, its longest time, the minutes at which it is due,
--- which jobs' runs may meet a late run of it, its command and its user
+-- what the names of a job's runs begin with, its longest time, the minutes at which it is due by
+-- the clock of the zone, which jobs' runs may meet a late run of it, its command and its user
 pub record IsNote (d : Declared) (owners : List Owner) (job : ℕ) (note : JobNote) : Type 0 where
   pub front : note.front ≡ job_front d job
   pub max : note.max ≡ (job_at d job).max
   pub due : note.when ≡ option_and_then schedule_in (slice_get d.crontab.lines job)
+  pub zone : note.zone ≡ d.zone
+  pub other_clock : note.other_clock ≡ other_clock d
   pub peers : note.peers ≡ peers d job
   pub command : note.command ≡ command_of d job
   pub user : note.user ≡ user_of owners job

@@ -5,8 +5,10 @@ use cs_crontab::Line;
 use cs_daemon::Cause;
 use cs_machine::{ClockBack, JobNote, Remarks, RunLog, Setup, Tally, ToldFile};
 use cs_owner::Owner;
+use cs_plan::{ClockNames, Plan};
 use cs_ruling::Order;
 use cs_table::Setting;
+use cs_zone::Zone;
 use std::alloc::{AllocError, Global};
 use std::io;
 use std::io::Write;
@@ -192,6 +194,22 @@ fn mail_line(alloc: Global, setting: &Setting, table: &str) -> Result<Vec<u8>, A
     )
 }
 
+/// That runs are named by the plan's clock, and what the zone's other clock is beside it.
+fn clock_line(alloc: Global, clocks: &ClockNames, zone: &Zone) -> Result<Vec<u8>, AllocError> {
+    let minutes = zone.saving().to_string(alloc)?;
+    let side = if zone.is_ahead() {
+        b" minutes ahead of it".as_slice()
+    } else {
+        b" minutes behind it".as_slice()
+    };
+    let (plan, other) = (clocks.plan.as_slice(), clocks.other.as_slice());
+    let (front, minutes) = (b"runs are named by ".as_slice(), minutes.as_bytes());
+    joined(
+        alloc,
+        &[front, plan, b" all year; ", other, b" is ", minutes, side],
+    )
+}
+
 /// Of a line of the crontab: `front`, its number and this text.
 fn line_note(alloc: Global, front: &[u8], line: &Line, text: &[u8]) -> Result<Vec<u8>, AllocError> {
     let number = line.number().to_string(alloc)?;
@@ -209,6 +227,17 @@ impl<'a, 'r, R: Clock + Wait, W: Write> Hand<'a, 'r, R, W> {
     pub(crate) fn note_first(&mut self, alloc: Global, first: Option<Minute>) {
         if let Some(first) = first {
             self.note_made(first_line(alloc, first));
+        }
+    }
+
+    /// Nothing without summer time.
+    fn note_clock(&mut self, alloc: Global, plan: &Plan) {
+        let zone = plan.zone();
+        if zone.saving() == 0 {
+            return;
+        }
+        if let Some(clocks) = plan.clocks() {
+            self.note_made(clock_line(alloc, clocks, zone));
         }
     }
 
@@ -241,9 +270,9 @@ impl<'a, 'r, R: Clock + Wait, W: Write> Hand<'a, 'r, R, W> {
         }
     }
 
-    /// Notes what a daemon begins with: its files and their digests, the settings that have no
-    /// effect, and the commands and names of its crontab, from which readers of the log know what
-    /// its runs are.
+    /// Notes what a daemon begins with: its files and their digests, the clock by which runs are
+    /// named, the settings that have no effect, and the commands and names of its crontab, from
+    /// which readers of the log know what its runs are.
     pub(crate) fn note_opening(&mut self, alloc: Global, order: &Order<'_>, jobs: &[JobNote]) {
         if let Ok(line) = opening(alloc, order) {
             self.note(line.as_slice());
@@ -253,6 +282,7 @@ impl<'a, 'r, R: Clock + Wait, W: Write> Hand<'a, 'r, R, W> {
         self.note_made(digest_line(alloc, "declarations", &digests.declarations));
         self.note_made(digest_line(alloc, "certificate", &digests.certificate));
         let plan = order.checked.plan();
+        self.note_clock(alloc, plan);
         self.note_mail(alloc, plan.crontab().settings(), "crontab", 0);
         self.note_owned_mail(alloc, order.owners.as_slice());
         self.note_mail(alloc, plan.anacrontab().settings(), "anacrontab", 0);

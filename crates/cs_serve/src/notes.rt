@@ -4,7 +4,7 @@ ghost use Rattle.std.specs.Prelude.{slice_get};
 ghost use Rattle.cs_check.specs.Checked.{plan_in};
 ghost use Rattle.cs_plan.specs.Plan.{as_plan};
 ghost use Rattle.cs_serve.specs.Notes.{AreNotes, IsNote, command_of, may_meet, peer, peers};
-ghost use Rattle.cs_serve.specs.Notes.{schedule_in, user_of};
+ghost use Rattle.cs_serve.specs.Notes.{other_clock, schedule_in, user_of};
 
 use crate::names::name_of;
 use cs_civil::Bytes;
@@ -79,6 +79,15 @@ fn schedule_of(plan: &Plan, number: usize) -> Option<Schedule>
     }
 }
 
+fn other_clock(plan: &Plan) -> &[u8]
+    ensures { result.now ≡ other_clock plan.now }
+{
+    match plan.clocks() {
+        Some(clocks) => clocks.other.as_slice(),
+        None => b"".as_slice(),
+    }
+}
+
 fn command_of(plan: &Plan, number: usize) -> &[u8]
     ensures { result.now ≡ command_of plan.now number }
 {
@@ -120,6 +129,8 @@ fn note(
         front: Bytes::from_vec(front),
         max: u64::from(plan.jobs()[number].max()),
         when: schedule_of(plan, number),
+        zone: *plan.zone(),
+        other_clock: Bytes::from_slice(alloc, other_clock(plan))?,
         peers: peers(alloc, plan, number)?,
         name: Bytes::from_slice(alloc, name_of(plan, entries, number))?,
         command: Bytes::from_slice(alloc, command_of(plan, number))?,

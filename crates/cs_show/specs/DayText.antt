@@ -2,7 +2,9 @@
 use Rattle.std.specs.Prelude.{ℕ, ◌+◌, ◌-◌, ◌*◌, ◌/◌, ◌%◌, ◌==◌, List, [], ◌∷◌, ◌++◌, flat_map, length, codes, decimal, if◌then◌else◌, nat_le}
 use Rattle.cs_civil.specs.Calendar.{Kind, four_days, kind}
 use Rattle.cs_civil.specs.Text.{two_digits, day_text, weekday_text}
-use Rattle.cs_schedule.specs.Times.{Times, is_due}
+use Rattle.cs_schedule.specs.Times.{Times}
+use Rattle.cs_zone.specs.Starts.{is_due}
+use Rattle.cs_zone.specs.Zone.{no_zone}
 use Rattle.cs_schedule.specs.Minutes.{minutes_where}
 use Rattle.cs_windows.specs.declared.window.Window.{Window}
 use Rattle.cs_windows.specs.Windows.{Job, windows_on}
@@ -45,12 +47,12 @@ reboot_text number = codes "line " ++ (decimal number ++ codes ": at reboot\n")
 
 -- a job whose runs last so long
 abbrev pub job : Times → ℕ → Job Kind
-job times max = record { begins = is_due times; lasts = max }
+job times max = record { begins = is_due no_zone times; lasts = max }
 
 -- a command line: how often it is due, and the windows of its runs, those begun on earlier days
 -- first
 unfoldable pub job_text : ℕ → ℕ → ℕ → Times → List ℕ
-job_text n max number times = due_text number (length (minutes_where (is_due times (kind n))))
+job_text n max number times = due_text number (length (minutes_where (is_due no_zone times (kind n))))
     ++ flat_map window_text (windows_on (job times max ∷ []) (four_days n))
 
 -- a blank, the weekday's name, and the end of the line

@@ -5,6 +5,7 @@ ghost use Rattle.cs_show.specs.DayText.{catch_up_text, clock, date_line, days_ap
 use cs_civil::{Day, Hours, day_text, four_days, kind_of, weekday_name};
 use cs_schedule::Schedule;
 use cs_windows::{Occupied, Window, windows_on};
+use cs_zone::Zone;
 use std::alloc::{AllocError, Global};
 
 /// Adds `HH:MM` of a minute of a day.
@@ -111,10 +112,12 @@ pub fn add_job(
     ensures { OnOk result
         (text.new.items ≡ text.old.items ++ job_text day max number schedule.now) }
 {
-    let due = schedule.minutes_of(kind_of(day)).len();
+    let due = Zone::none().minutes_of(schedule, kind_of(day)).len();
     add_due(alloc, text, number, due)?;
+    let zone = Zone::none();
     let occupied = [Occupied::Cron {
         schedule,
+        zone: &zone,
         reach: max,
     }];
     let windows = windows_on(alloc, occupied.as_slice(), four_days(day).as_slice())?;

@@ -1,7 +1,7 @@
 //! How other runs hold the lock of a group without a gap, so that a run gets it late.
 use crate::part::{Part, is_of, part_of};
 use crate::wanted::{MINUTES_OF_DAY, Wanted, is_wanted, task_of};
-use cs_profile::{Calendar, Facts};
+use cs_profile::{Calendar, Due, Facts};
 use std::alloc::{AllocError, Global};
 
 /// How many days before its end a chain may begin.
@@ -114,18 +114,18 @@ impl Link {
 }
 
 /// Adds the runs of a job on a day, except the wanted ones.
-fn add_job(links: &mut Vec<Link>, facts: &Facts, runs: &[Wanted], job: u16, midnight: u64) {
-    let Some(own) = task_of(facts, job) else {
+fn add_job(links: &mut Vec<Link>, facts: &Facts, runs: &[Wanted], due: Due, midnight: u64) {
+    let Some(own) = task_of(facts, due.job) else {
         return;
     };
-    let Some(part) = part_of(facts, job) else {
+    let Some(part) = part_of(facts, due.job) else {
         return;
     };
     let minutes = u64::from(own.max.saturating_sub(1));
-    for minute in own.minutes.as_slice() {
-        if !is_wanted(runs, job, midnight.saturating_add(u64::from(*minute))) {
+    for minute in own.minutes(due) {
+        if !is_wanted(runs, due.job, midnight.saturating_add(u64::from(*minute))) {
             if let Some(link) = links.get_mut(usize::from(*minute)) {
-                link.add(part, own.is_try(), job, minutes);
+                link.add(part, own.is_try(), due.job, minutes);
             }
         }
     }
@@ -135,7 +135,7 @@ fn links_on(
     alloc: Global,
     facts: &Facts,
     runs: &[Wanted],
-    due: &[u16],
+    due: &[Due],
     group: u8,
     midnight: u64,
 ) -> Result<Vec<Link>, AllocError> {
@@ -146,9 +146,9 @@ fn links_on(
         job: 0,
     };
     let mut links: Vec<Link> = Vec::from_elem(alloc, none, MINUTES_OF_DAY as usize)?;
-    for job in due {
-        if is_of(facts, *job, group) {
-            add_job(&mut links, facts, runs, *job, midnight);
+    for due in due {
+        if is_of(facts, due.job, group) {
+            add_job(&mut links, facts, runs, *due, midnight);
         }
     }
     Ok(links)
@@ -219,7 +219,7 @@ impl Back {
     }
 }
 
-fn due_on<'a>(facts: &'a Facts, calendar: &Calendar, day: u64) -> Option<&'a [u16]> {
+fn due_on<'a>(facts: &'a Facts, calendar: &Calendar, day: u64) -> Option<&'a [Due]> {
     let profile = calendar.profile_on(day)?;
     match facts.due().get(usize::from(profile)) {
         Some(due) => Some(due.as_slice()),

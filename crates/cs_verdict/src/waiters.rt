@@ -69,7 +69,10 @@ fn push_taker_note(
     text.extend_from_slice(b" takes the lock: ")?;
     push_terms(alloc, text, plan, job)?;
     if let When::At(schedule) = line.when() {
-        if schedule.is_due_on(kind_of(at.day()), at.minute_of_day()) {
+        if plan
+            .zone()
+            .is_due_on(schedule, kind_of(at.day()), at.minute_of_day())
+        {
             text.extend_from_slice(b", due then")?;
         }
     }

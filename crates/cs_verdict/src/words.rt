@@ -7,6 +7,7 @@ use cs_counterexample::{Shown, push_run_name};
 use cs_history::{Event, Going, Run, Script};
 use cs_place::push_shown;
 use cs_plan::{Job, Plan};
+use cs_wall::push_wall;
 use std::alloc::{AllocError, Global};
 
 /// How many bytes of a command are shown.
@@ -110,15 +111,23 @@ pub(crate) fn push_terms(
     text.extend_from_slice(MODES[job.mode() as usize].as_bytes())
 }
 
-/// Adds a minute. One that has no date becomes the first or the last that has one.
-fn push_minute(text: &mut Vec<u8>, minute: u64) -> Result<(), AllocError> {
-    let minute = Minute::new(minute.max(FIRST_MINUTE).min(LAST_MINUTE)).unwrap();
-    text.extend_from_slice(&date_text(minute))
+/// The minute with this number. One that has no date becomes the first or the last that has one.
+fn dated(minute: u64) -> Minute {
+    Minute::new(minute.max(FIRST_MINUTE).min(LAST_MINUTE)).unwrap()
 }
 
 fn push_run(alloc: Global, text: &mut Vec<u8>, plan: &Plan, run: Run) -> Result<(), AllocError> {
     push_run_name(alloc, text, plan, usize::from(run.job))?;
-    push_minute(text, run.at)
+    text.extend_from_slice(&date_text(dated(run.at)))
+}
+
+/// Adds a minute, and what the zone's clock shows then if that differs.
+fn push_minute(text: &mut Vec<u8>, plan: &Plan, minute: Minute) -> Result<(), AllocError> {
+    text.extend_from_slice(&date_text(minute))?;
+    match plan.clocks() {
+        Some(names) => push_wall(text, plan.zone(), names.other.as_slice(), minute),
+        None => Ok(()),
+    }
 }
 
 fn run_words(alloc: Global, plan: &Plan, going: Going) -> Result<Bytes, AllocError> {
@@ -126,9 +135,9 @@ fn run_words(alloc: Global, plan: &Plan, going: Going) -> Result<Bytes, AllocErr
     let mut words = Vec::new(alloc);
     push_run(alloc, &mut words, plan, going.run)?;
     words.extend_from_slice(b": began ")?;
-    push_minute(&mut words, going.since)?;
+    push_minute(&mut words, plan, dated(going.since))?;
     words.extend_from_slice(b", may go on until ")?;
-    push_minute(&mut words, going.since.saturating_add(max - 1))?;
+    push_minute(&mut words, plan, dated(going.since.saturating_add(max - 1)))?;
     Ok(Bytes::from_vec(words))
 }
 
@@ -183,7 +192,7 @@ fn push_broken_words(
         }
     }
     text.extend_from_slice(b" at ")?;
-    text.extend_from_slice(&date_text(minute))
+    push_minute(text, plan, minute)
 }
 
 fn add_broken(

@@ -1,12 +1,13 @@
 -- What the wall shows before, between and after the jumps.
-use Rattle.std.proofs.Common.{[], ◌∷◌, length, filter, cond, not, ◌&&◌, ◌==◌, ◌/◌, sym, ◌≡◌, ℕ, ◌+◌, ◌-◌, ◌%◌, ◌<◌, ◌≤◌, ◌≢◌, Bool, true, false, refl, ap, ◌∙◌, arith, inl, inr, nat_lt}
+use Rattle.std.proofs.Common.{[], ◌∷◌, length, filter, cond, not, ◌&&◌, ◌==◌, ◌/◌, sym, ◌≡◌, ℕ, ◌+◌, ◌-◌, ◌*◌, ◌%◌, ◌<◌, ◌≤◌, ◌≢◌, Bool, true, false, refl, ap, ◌∙◌, arith, inl, inr, nat_lt}
 use Rattle.std.proofs.lemmas.Bool.Decides.{nat_tests, eqb_tells}
 use Rattle.cs_zone.proofs.Counts.{count_found, count_some}
 use Rattle.cs_civil.specs.Calendar.{Kind, IsKind, kinds_after}
-use Rattle.cs_schedule.specs.Times.{Times, is_due as is_listed}
+use Rattle.cs_schedule.specs.Times.{Times, is_day_due, is_due as is_listed, is_time_due}
+use Rattle.cs_zone.specs.Shape.{is_due_shifted, is_plain, is_shifted, is_turned, neighbour, turn}
 use Rattle.cs_zone.specs.Starts.{Comes, is_by_wall, is_due, is_shown, jumped_over, one_if, starts, starts_late}
 use Rattle.cs_zone.specs.Zone.{IsJump, IsZone, Jump, Zone}
-use Rattle.cs_zone.specs.Wall.{back, forward, is_second, days_of_months, jump_day, kind_on, leaving, march_day, minute_on, month_on, returning, wall, weekday_on}
+use Rattle.cs_zone.specs.Wall.{back, forward, is_away, is_second, days_of_months, jump_day, kind_on, leaving, march_day, minute_on, month_on, returning, wall, weekday_on}
 
 pub day_bounds : (j : Jump) (k : Kind) → (j.earliest ≤ jump_day j k) × (jump_day j k ≤ j.earliest + 6)
 day_bounds j k = (omega arith, omega arith)
@@ -174,3 +175,88 @@ still z s k minute h lt none =
     by true false = refl
     by false true = refl
     by false false = refl
+
+-- ---- minutes in which no time is listed that the wall may show
+
+-- it shows the time of the plan's clock, or one that is a saving later or earlier
+nearby : (z : Zone) (k : Kind) (minute : ℕ) (test : ℕ → Bool) → IsZone z → minute < 1440 → test minute ≡ false → test ((minute + z.saving) % 1440) ≡ false → test ((minute + 1440 - z.saving) % 1440) ≡ false → test (wall z k (minute_on k minute) % 1440) ≡ false
+nearby z k minute test h lt here later earlier = by (is_away z k (minute_on k minute)) refl z.ahead refl
+  where
+    at : (m : ℕ) → test m ≡ false → wall z k (minute_on k minute) % 1440 ≡ m → test (wall z k (minute_on k minute) % 1440) ≡ false
+    at m none same = ap test same ∙ none
+
+    by : (away : Bool) → is_away z k (minute_on k minute) ≡ away → (ahead : Bool) → z.ahead ≡ ahead → test (wall z k (minute_on k minute) % 1440) ≡ false
+    by false e _ _ = at minute here (rw e (omega arith))
+    by true e true f = at ((minute + z.saving) % 1440) later (rw (e, f) (omega arith))
+    by true e false f =
+        let low : z.saving ≤ 1440 * march_day k = grind (arith, nat_tests, bounds z k h, h.saving, e) in
+        at ((minute + 1440 - z.saving) % 1440) earlier (rw (e, f) (omega (arith, low, h.saving)))
+
+pub unlisted : (z : Zone) (s : Times) (k : Kind) (minute : ℕ) → IsZone z → minute < 1440 → is_time_due s minute ≡ false → is_time_due s ((minute + z.saving) % 1440) ≡ false → is_time_due s ((minute + 1440 - z.saving) % 1440) ≡ false → minute_on k minute ≢ forward z k → false ≡ is_due z s k minute
+unfolding starts
+unlisted z s k minute h lt here later earlier before =
+    let t = minute_on k minute in
+    let no : is_time_due s (wall z k t % 1440) ≡ false = nearby z k minute (is_time_due s) h lt here later earlier in
+    let dark : is_shown s k (wall z k t) ≡ false = ap (λ (b : Bool). b && is_day_due s (kind_on k (wall z k t / 1440))) no ∙ unless (is_day_due s (kind_on k (wall z k t / 1440))) in
+    rw (dark, not_late z s k t before) (by (is_by_wall s) (is_second z k t))
+  where
+    unless : (day : Bool) → (false && day) ≡ false
+    unless true = refl
+    unless false = refl
+
+    by : (fixed second : Bool) → false ≡ nat_lt 0 (cond fixed (one_if false) (one_if (false && not second) + 0))
+    by true true = refl
+    by true false = refl
+    by false true = refl
+    by false false = refl
+
+-- ---- days with no jump near
+
+-- neither second nor late
+calm : (z : Zone) (s : Times) (k : Kind) (t : ℕ) → is_second z k t ≡ false → starts_late z s k t ≡ 0 → nat_lt 0 (starts z s k t) ≡ is_shown s k (wall z k t)
+unfolding starts
+calm z s k t first none = rw (first, none) (by (is_by_wall s) (is_shown s k (wall z k t)))
+  where
+    by : (fixed listed : Bool) → nat_lt 0 (cond fixed (one_if listed) (one_if (listed && not false) + 0)) ≡ listed
+    by true true = refl
+    by true false = refl
+    by false true = refl
+    by false false = refl
+
+none_late : (z : Zone) (s : Times) (k : Kind) (t : ℕ) → (t ≡ forward z k → z.saving ≡ 0) → starts_late z s k t ≡ 0
+none_late z s k t h = elim (eqb_tells t (forward z k)) [
+  | inl same ↦ never_late z s k t (h same.1)
+  | inr other ↦ not_late z s k t other.1
+]
+
+pub plain_day : (z : Zone) (s : Times) (k : Kind) (minute : ℕ) → IsZone z → IsKind k → is_plain z k ≡ true → minute < 1440 → is_due z s k minute ≡ is_listed s k minute
+plain_day z s k minute h is plain lt =
+    let t = minute_on k minute in
+    let first : is_second z k t ≡ false = grind (arith, nat_tests, bounds z k h, plain) in
+    let on : t ≡ forward z k → z.saving ≡ 0 = λ e. grind (arith, nat_tests, bounds z k h, plain, e) in
+    let same : wall z k t ≡ t = grind (arith, nat_tests, wall_early, wall_late, bounds z k h, plain) in
+    calm z s k t first (none_late z s k t on) ∙ (ap (is_shown s k) same ∙ on_day s k minute is lt)
+
+shifted_wall : (z : Zone) (k : Kind) (minute : ℕ) → IsZone z → is_shifted z k ≡ true → minute < 1440 → (wall z k (minute_on k minute) % 1440 ≡ (minute + turn z) % 1440) × (wall z k (minute_on k minute) / 1440 ≡ cond (is_turned z minute) (cond z.ahead (march_day k + 1) (march_day k - 1)) (march_day k))
+shifted_wall z k minute h shifted lt = (grind (arith, nat_tests, wall_ahead, wall_behind, bounds z k h, shifted, h.saving), grind (arith, nat_tests, wall_ahead, wall_behind, bounds z k h, shifted, h.saving))
+
+swap : (a b : Bool) → (a && b) ≡ (b && a)
+swap true true = refl
+swap true false = refl
+swap false true = refl
+swap false false = refl
+
+pub shifted_day : (z : Zone) (s : Times) (k : Kind) (minute : ℕ) → IsZone z → IsKind k → is_shifted z k ≡ true → minute < 1440 → is_due z s k minute ≡ is_due_shifted z s (is_day_due s k) (is_day_due s (neighbour z k)) minute
+shifted_day z s k minute h is shifted lt =
+    let t = minute_on k minute in
+    let first : is_second z k t ≡ false = grind (arith, nat_tests, bounds z k h, shifted) in
+    let on : t ≡ forward z k → z.saving ≡ 0 = λ e. grind (arith, nat_tests, bounds z k h, shifted, e) in
+    let at = shifted_wall z k minute h shifted lt in
+    calm z s k t first (none_late z s k t on)
+    ∙ (ap (λ (m : ℕ). is_listed s (kind_on k (wall z k t / 1440)) m) at.0
+    ∙ (ap (λ (d : ℕ). is_listed s (kind_on k d) ((minute + turn z) % 1440)) at.1
+    ∙ by (is_turned z minute)))
+  where
+    by : (turned : Bool) → is_listed s (kind_on k (cond turned (cond z.ahead (march_day k + 1) (march_day k - 1)) (march_day k))) ((minute + turn z) % 1440) ≡ (cond turned (is_day_due s (neighbour z k)) (is_day_due s k) && is_time_due s ((minute + turn z) % 1440))
+    by true = swap (is_time_due s ((minute + turn z) % 1440)) (is_day_due s (neighbour z k))
+    by false = ap (λ (x : Kind). is_listed s x ((minute + turn z) % 1440)) (kind_on_self k is) ∙ swap (is_time_due s ((minute + turn z) % 1440)) (is_day_due s k)

@@ -1,2 +1,5 @@
 pub mod Counts
 pub mod Comings
+pub mod Collecting
+pub mod Shapes
+pub mod Turning

@@ -1,3 +1,4 @@
 pub mod Zone
 pub mod Wall
 pub mod Starts
+pub mod Shape

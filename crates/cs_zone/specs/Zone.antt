@@ -1,6 +1,6 @@
 -- A zone with summer time (POSIX, TZ), seen from a clock that shows all year what the zone shows on
 -- 28 February: the plan's clock.
-use Rattle.std.specs.Prelude.{ℕ, Bool, ◌+◌, ◌≤◌}
+use Rattle.std.specs.Prelude.{ℕ, Bool, false, ◌+◌, ◌≤◌}
 
 -- A jump of the zone's clock: each year on the first such weekday from a day on, at a minute of the
 -- clock before the jump. Days count from 1 March, which is day 0; Sunday is weekday 0.
@@ -31,3 +31,12 @@ pub record IsZone (z : Zone) : Type 0 where
   pub after_march : 7 ≤ z.leaves.earliest
   pub apart : z.leaves.earliest + 14 ≤ z.returns.earliest
   pub before_march : z.returns.earliest ≤ 351
+
+-- without summer time
+abbrev pub no_zone : Zone
+no_zone = record {
+  ahead = false;
+  saving = 0;
+  leaves = record { earliest = 7; weekday = 0; minute = 0 };
+  returns = record { earliest = 200; weekday = 0; minute = 0 };
+}

@@ -2,10 +2,12 @@
 #![tactic(auto)]
 
 mod laws;
+mod shape;
 mod starts;
 mod wall;
 mod zone;
 
 pub use laws::nights;
+pub use shape::Shape;
 pub use wall::{march_day, wall_on};
 pub use zone::{Jump, Zone};

@@ -41,7 +41,7 @@ fn is_by_wall(schedule: &Schedule) -> bool
 }
 
 /// The first minutes after the jump forward and after the jump back, from 1 March 00:00.
-fn jumps_on(zone: Zone, kind: DayKind) -> (u32, u32)
+pub(crate) fn jumps_on(zone: Zone, kind: DayKind) -> (u32, u32)
     ensures forward { result.0 ≡ forward zone kind }
     ensures back { result.1 ≡ back zone kind }
     ensures bounds { (10080 ≤ result.0) × (result.0 ≤ 515640) × (result.1 ≤ 515640) }

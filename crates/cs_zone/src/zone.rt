@@ -1,5 +1,5 @@
 ghost use Rattle.std.specs.Prelude.{◌≡◌, ◌↔◌, IsSome, IfSome};
-ghost use Rattle.cs_zone.specs.Zone.{IsJump, IsZone};
+ghost use Rattle.cs_zone.specs.Zone.{IsJump, IsZone, no_zone};
 
 use std::marker::Model;
 
@@ -129,6 +129,26 @@ impl Zone {
             first: leaves,
             second: returns,
         })
+    }
+
+    /// Returns the zone without summer time.
+    pub fn none() -> Zone
+        ensures { result ≡ no_zone }
+    {
+        Zone {
+            is_ahead: false,
+            minutes: 0,
+            first: Jump {
+                first: 7,
+                weekday: 0,
+                minute_of_day: 0,
+            },
+            second: Jump {
+                first: 200,
+                weekday: 0,
+                minute_of_day: 0,
+            },
+        }
     }
 
     /// Whether the clock is ahead between the jumps, and not behind.

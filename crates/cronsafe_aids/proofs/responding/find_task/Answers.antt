@@ -1,11 +1,10 @@
-use Rattle.std.proofs.Common.{◌≡◌, [], inl, inr, refl}
+use Rattle.std.proofs.Common.{[], inl, inr, refl}
 use Rattle.std.specs.Prelude.{⊤}
 use Rattle.std.proofs.lemmas.Option.{IfSome_then}
 use Rattle.std.proofs.lemmas.Result.{err_from_is_err_and}
 use Rattle.cs_advise.specs.Answer.{IsAdvisedOf}
 use Rattle.cs_advise.specs.declared.answers.Question.TheVariants.{Advice, Rooms}
 use Rattle.cs_args.specs.Asked.{asked_chart, asked_draft, asked_judge, asked_learn, asked_next}
-use Rattle.cs_chart.specs.Answer.{FindsDrawable, IsDrawn}
 use Rattle.cs_draft.specs.Answer.{FindsDraftable, PrintsDraft}
 use Rattle.cs_learn.specs.Answer.{FindsLearnable, PrintsLearned}
 use Rattle.cs_files.specs.Asked.{FindsPlan, FindsTables}
@@ -46,13 +45,13 @@ returns-in_err-found-in-Draft-clause-value g c = λ fresh.
     let p = err_from_is_err_and c.from_residual-in_err-found-in-Draft.result c.from_residual-in_err-found-in-Draft.ensures.1 in
     let a = asked_draft c.in-Draft.words in
     let (w, told, (warns, came)) = c.in_err-found-in-Draft.ensures.value fresh in
-    rw (c.in-Draft.is, p.1, p.2) (w, told, (warns, stopped (FindsDraftable a (g.I.Inputs.whole c.args.inputs.now) w) (PrintsDraft a.max c.args.now.offset) (g.I.Inputs.failed c.args.inputs.now) (g.I.Inputs.failed c.find_draftable.new.inputs) c.in_err-found-in-Draft.field-0.0 came))
+    rw (c.in-Draft.is, p.1, p.2) (w, told, (warns, stopped (FindsDraftable a (g.I.Inputs.whole c.args.inputs.now) w) (PrintsDraft a.max c.args.now.offset c.args.now.zone.now) (g.I.Inputs.failed c.args.inputs.now) (g.I.Inputs.failed c.find_draftable.new.inputs) c.in_err-found-in-Draft.field-0.0 came))
 
 pub returns-in_ok-found-in-Draft-clause-value : goal.returns-in_ok-found-in-Draft-clause-value
 returns-in_ok-found-in-Draft-clause-value g c = λ fresh.
     let a = asked_draft c.in-Draft.words in
     let (w, told, (warns, came)) = c.in_ok-found-in-Draft.ensures.value fresh in
-    rw (c.in-Draft.is) (w, told, (warns, λ e is. (e, drafted a c.args.now.offset (g.I.Inputs.whole c.args.inputs.now) w (g.I.Inputs.failed c.args.inputs.now) (g.I.Inputs.failed c.find_draftable.new.inputs) c.in_ok-found-in-Draft.found e came is, refl)))
+    rw (c.in-Draft.is) (w, told, (warns, λ e is. (e, drafted a c.args.now.offset c.args.now.zone.now (g.I.Inputs.whole c.args.inputs.now) w (g.I.Inputs.failed c.args.inputs.now) (g.I.Inputs.failed c.find_draftable.new.inputs) c.in_ok-found-in-Draft.found e came is, refl)))
 
 pub returns-in_err-found-in-Learn-clause-value : goal.returns-in_err-found-in-Learn-clause-value
 returns-in_err-found-in-Learn-clause-value g c = λ fresh.

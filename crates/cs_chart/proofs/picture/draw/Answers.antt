@@ -1,4 +1,4 @@
-use Rattle.std.proofs.Common.{map, string_bytes}
+use Rattle.std.proofs.Common.{map}
 use Rattle.cs_chart.specs.Chart.{shown_of}
 use Rattle.cs_chart.proofs.Drawn.{before_text, behind_text}
 use Rattle.cs_chart.proofs.picture.draw.Goals as goal

@@ -7,9 +7,9 @@ use Rattle.cs_chart.proofs.row.plan_rows.Given as goal
 
 abbrev pub invariant-loop-place : goal.invariant-loop-place
 invariant-loop-place l = map shown_of l.rows.items
-    ≡ map (λ j. windows_of (command_of l.plan j).when (job_at l.plan j).max) (below l.place)
+    ≡ map (λ j. windows_of l.plan.zone (command_of l.plan j).when (job_at l.plan j).max) (below l.place)
 
 abbrev pub invariant-loop-place-2 : goal.invariant-loop-place-2
 invariant-loop-place-2 l = map shown_of l.rows.items
-    ≡ map (λ j. windows_of (command_of l.plan j).when (job_at l.plan j).max) (below (crons l.plan))
+    ≡ map (λ j. windows_of l.plan.zone (command_of l.plan j).when (job_at l.plan j).max) (below (crons l.plan))
     ++ map (λ j. windows_of_anacron (terms_at l.plan (crons l.plan + j))) (below l.place)

@@ -13,24 +13,24 @@ returns-then-not-is_job_alike c =
     let a = said c.args.claim.now in
     let lines = c.lines-line-items.ensures.value ∙ ap (λ (t : Table). t.lines) c.crontab.ensures.value in
     let long = ap length lines in
-    let class = c.class_of-class.ensures.value ∙ ap (λ (tree : Tree). class_in tree c.args.kind) c.kinds.ensures.value in
-    let own = c.as_slice-row.ensures ∙ (c.index-rows-class.is ∙ ap (λ (r : List Likeness). get_or c.args.rows.now c.class_of-class.result r) (sym c.as_slice-row.ensures)) in
-    let one = row_says d a c.args.kind c.loop-number.number c.class_of-class.result c.args.rows.now c.as_slice-row.result.now c.line-item.result c.lines-line-items.result.now c.requires own class (omega (arith, class, c.kinds.ensures.there c.args.kind)) lines c.loop-number-test.true c.line-item.is in
-    sym (below_false (job_alike d a c.args.kind) (crons d) c.loop-number.number (omega (arith, long, c.loop-number-test.true)) (sym one ∙ sym c.is_job_alike.ensures ∙ c.if-not-is_job_alike.true))
+    let class = c.class_of-number.ensures.value ∙ ap (λ (tree : Tree). class_in tree c.args.kind) c.kinds.ensures.value in
+    let own = c.as_slice-row.ensures ∙ (c.index-rows-number.is ∙ ap (λ (r : List Likeness). get_or c.args.rows.now c.class_of-number.result r) (sym c.as_slice-row.ensures)) in
+    let one = row_says d a c.args.kind c.loop-job.job c.class_of-number.result c.args.rows.now c.as_slice-row.result.now c.line-item.result c.lines-line-items.result.now c.zone-zone.result.now c.index-classes-number.result c.classes.result.now c.is_job_alike.result c.requires own class (omega (arith, class, c.kinds.ensures.there c.args.kind)) lines c.loop-job-test.true c.line-item.is c.zone-zone.ensures c.classes.ensures c.index-classes-number.is c.is_job_alike.ensures in
+    sym (below_false (job_alike d a c.args.kind) (crons d) c.loop-job.job (omega (arith, long, c.loop-job-test.true)) (sym one ∙ c.if-not-is_job_alike.true))
 
-pub loop-number-preserved : goal.loop-number-preserved
-loop-number-preserved c =
+pub loop-job-preserved : goal.loop-job-preserved
+loop-job-preserved c =
     let d = c.args.plan.now in
     let a = said c.args.claim.now in
     let lines = c.lines-line-items.ensures.value ∙ ap (λ (t : Table). t.lines) c.crontab.ensures.value in
-    let class = c.class_of-class.ensures.value ∙ ap (λ (tree : Tree). class_in tree c.args.kind) c.kinds.ensures.value in
-    let own = c.as_slice-row.ensures ∙ (c.index-rows-class.is ∙ ap (λ (r : List Likeness). get_or c.args.rows.now c.class_of-class.result r) (sym c.as_slice-row.ensures)) in
-    let one = row_says d a c.args.kind c.loop-number.number c.class_of-class.result c.args.rows.now c.as_slice-row.result.now c.line-item.result c.lines-line-items.result.now c.requires own class (omega (arith, class, c.kinds.ensures.there c.args.kind)) lines c.loop-number-test.true c.line-item.is in
-    below_more _ _ c.loop-number.invariant (sym one ∙ sym c.is_job_alike.ensures ∙ c.if-not-is_job_alike.false)
+    let class = c.class_of-number.ensures.value ∙ ap (λ (tree : Tree). class_in tree c.args.kind) c.kinds.ensures.value in
+    let own = c.as_slice-row.ensures ∙ (c.index-rows-number.is ∙ ap (λ (r : List Likeness). get_or c.args.rows.now c.class_of-number.result r) (sym c.as_slice-row.ensures)) in
+    let one = row_says d a c.args.kind c.loop-job.job c.class_of-number.result c.args.rows.now c.as_slice-row.result.now c.line-item.result c.lines-line-items.result.now c.zone-zone.result.now c.index-classes-number.result c.classes.result.now c.is_job_alike.result c.requires own class (omega (arith, class, c.kinds.ensures.there c.args.kind)) lines c.loop-job-test.true c.line-item.is c.zone-zone.ensures c.classes.ensures c.index-classes-number.is c.is_job_alike.ensures in
+    below_more _ _ c.loop-job.invariant (sym one ∙ c.if-not-is_job_alike.false)
 
 pub returns : goal.returns
 returns c =
     let d = c.args.plan.now in
     let lines = c.lines-line-items.ensures.value ∙ ap (λ (t : Table). t.lines) c.crontab.ensures.value in
     let long = ap length lines in
-    sym (below_true (job_alike d (said c.args.claim.now) c.args.kind) (crons d) c.loop-number.number (omega (arith, long, c.loop-number-test.false)) c.loop-number.invariant)
+    sym (below_true (job_alike d (said c.args.claim.now) c.args.kind) (crons d) c.loop-job.job (omega (arith, long, c.loop-job-test.false)) c.loop-job.invariant)

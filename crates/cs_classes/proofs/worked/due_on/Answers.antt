@@ -2,6 +2,7 @@ use Rattle.std.proofs.Common.{◌≡◌, ℕ, suc, ◌+◌, ◌<◌, ◌++◌, l
 use Rattle.std.specs.Prelude.{flat_map, slice_index_or}
 use Rattle.std.proofs.lemmas.List.Concat.{flat_map-append}
 use Rattle.cs_claims.specs.declared.class.DueList.{DueList}
+use Rattle.cs_zone.specs.Zone.{Zone}
 use Rattle.cs_crontab.specs.Crontab.{CommandLine, Table}
 use Rattle.cs_plan.specs.Plan.{Declared, command_of, no_command}
 use Rattle.cs_civil.specs.Calendar.{Kind}
@@ -25,12 +26,12 @@ one_more f n so_far next more h k e =
 line_there : (lines : List CommandLine) (d : Declared) (j : ℕ) (line : CommandLine) → j < length lines → lines ≡ d.crontab.lines → line ≡ slice_index_or lines j line → line ≡ command_of d j
 line_there lines d j line lt same is = is ∙ (within lines j line no_command lt ∙ ap (λ (ls : List CommandLine). slice_index_or ls j no_command) same)
 
-list_of : (d : Declared) (kind : Kind) (j : ℕ) (line : CommandLine) (minutes : List ℕ) → line ≡ command_of d j → minutes ≡ filter (is_due_on line.when kind) day_minutes → due_list j minutes ≡ due_list j (filter (due_on d j kind) day_minutes)
-list_of d kind j line minutes e h = ap (due_list j) (h ∙ ap (λ (l : CommandLine). filter (is_due_on l.when kind) day_minutes) e)
+list_of : (d : Declared) (kind : Kind) (j : ℕ) (line : CommandLine) (minutes : List ℕ) → line ≡ command_of d j → minutes ≡ filter (is_due_on d.zone line.when kind) day_minutes → due_list j minutes ≡ due_list j (filter (due_on d j kind) day_minutes)
+list_of d kind j line minutes e h = ap (due_list j) (h ∙ ap (λ (l : CommandLine). filter (is_due_on d.zone l.when kind) day_minutes) e)
 
 pub loop-job-preserved : goal.loop-job-preserved
 loop-job-preserved c =
     let d = c.args.plan.now in
     let j = c.loop-job.job in
     one_more (λ (k : ℕ). due_list k (filter (due_on d k c.args.kind) day_minutes)) j c.loop-job.due c.add_list.new.due (due_list j c.minutes_on.result) c.loop-job.invariant c.in_ok-add_list.ensures
-    (list_of d c.args.kind j c.line-item.result c.minutes_on.result (line_there c.lines-line-items.result.now d j c.line-item.result c.loop-job-test.true (c.lines-line-items.ensures.value ∙ ap (λ (t : Table). t.lines) c.crontab.ensures.value) c.line-item.is) c.minutes_on.ensures)
+    (list_of d c.args.kind j c.line-item.result c.minutes_on.result (line_there c.lines-line-items.result.now d j c.line-item.result c.loop-job-test.true (c.lines-line-items.ensures.value ∙ ap (λ (t : Table). t.lines) c.crontab.ensures.value) c.line-item.is) (c.minutes_on.ensures ∙ ap (λ (z : Zone). filter (is_due_on z c.line-item.result.when c.args.kind) day_minutes) c.zone.ensures))

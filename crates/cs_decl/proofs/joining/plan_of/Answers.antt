@@ -12,7 +12,9 @@ new-requires c =
     let fits : SFits w16 c.offset_of.result = search rules in
     rw (
       to_z-of_z w16 c.offset_of.result fits,
-      c.offset_of.ensures,
+      c.offset_of.ensures.value,
+      c.zone_of.ensures,
+      c.in_ok-clocks.ensures,
       c.pass_of.ensures,
       c.hours_of.ensures,
       c.capacity_of.ensures,
@@ -27,4 +29,4 @@ new-requires c =
       c.lines-3.ensures.value,
       c.lines-4.ensures.value,
     )
-    (whole c.args.crontab c.args.left_out c.args.untimed c.args.anacrontab c.args.entries.now c.requires.valid c.lines.ensures.few c.lines-2.ensures.few c.lines-2.ensures.possible c.requires.timed)
+    (whole c.args.crontab c.args.left_out c.args.untimed c.args.anacrontab c.args.entries.now c.requires.valid (rw c.offset_of.ensures.value at c.offset_of.ensures.bound) c.lines.ensures.few c.lines-2.ensures.few c.lines-2.ensures.possible c.requires.timed)

@@ -1,4 +1,5 @@
 use Rattle.cs_decl.proofs.JobTerms.{lines, jobs, declared, defaults}
+use Rattle.cs_decl.proofs.OnlyOnce.{once}
 use Rattle.cs_decl.proofs.laws.each_line_has_its_job.Goals as goal
 
 pub returns-clause-lines : goal.returns-clause-lines
@@ -12,3 +13,6 @@ returns-clause-declared c = λ table anacrontab d plan j made. declared table an
 
 pub returns-clause-defaulted : goal.returns-clause-defaulted
 returns-clause-defaulted c = defaults
+
+pub returns-clause-once : goal.returns-clause-once
+returns-clause-once c = once

@@ -1,4 +1,4 @@
-use Rattle.std.proofs.Common.{rules, ◌≡◌, false, true, IfOk, IfSome, IsTrue, Bool, Result, Ok, Err, subst}
+use Rattle.std.proofs.Common.{rules, IfOk, IfSome, Bool, Result, Ok, Err, subst}
 use Rattle.cs_draft.specs.Draft.{HasGiven}
 use Rattle.cs_draft.proofs.added.is_updated_line.Goals as goal
 

@@ -1,9 +1,8 @@
-use Rattle.std.proofs.Common.{◌≡◌, ℕ, List, Option, Some, Ok, Err, Bor, option_map, subst, sym}
+use Rattle.std.proofs.Common.{ℕ, List, Option, Err, Bor, option_map, subst, sym}
 use Rattle.std.proofs.lemmas.Result.{err_from_is_err_and}
-use Rattle.cs_decl.specs.Meaning.{declared_by}
 use Rattle.cs_files.specs.Trouble.{CameTo}
 use Rattle.cs_draft.specs.Answer.{ReadsOld}
-use Rattle.cs_draft.proofs.AnswerLemmas.{old_read, old_unread}
+use Rattle.cs_draft.proofs.AnswerLemmas.{old_unread}
 use Rattle.cs_draft.proofs.answer.find_old.Goals as goal
 
 pub returns-in_err-bytes-in-Some-clause-step : goal.returns-in_err-bytes-in-Some-clause-step

@@ -1,4 +1,4 @@
-use Rattle.std.proofs.Common.{rules, ◌≡◌, ◌∙◌, List, ℕ, refl, sym}
+use Rattle.std.proofs.Common.{rules, refl}
 use Rattle.cs_machine.proofs.as_user.command_as.Goals as goal
 
 pub returns : goal.returns

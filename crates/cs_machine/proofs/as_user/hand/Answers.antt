@@ -1,4 +1,4 @@
-use Rattle.std.proofs.Common.{◌≡◌, ◌∙◌, ◌∷◌, ◌++◌, Bool, true, false, List, ℕ, Option, Some, None, bytes_eq, codes, if◌then◌else◌, option_map, Result, Ok, Err, IfOk, refl, sym, ap, subst, unwrap_or}
+use Rattle.std.proofs.Common.{◌≡◌, ◌∙◌, ◌∷◌, ◌++◌, Bool, true, false, List, ℕ, Some, None, bytes_eq, codes, if◌then◌else◌, option_map, Result, Ok, Err, IfOk, refl, sym, ap, subst, unwrap_or}
 use Rattle.std.specs.Result.{result_ok}
 use Rattle.std.proofs.lemmas.Option.{none-some}
 use Rattle.cs_machine.specs.Shell.{usual_settings}

@@ -1,4 +1,4 @@
-use Rattle.std.proofs.Common.{◌≡◌, ◌∙◌, ◌++◌, List, ℕ, ap, append_assoc, refl}
+use Rattle.std.proofs.Common.{◌∙◌, ◌++◌, List, ℕ, ap, append_assoc, refl}
 use Rattle.std.specs.Prelude.{codes}
 use Rattle.cs_place.specs.Shown.{shown_text}
 use Rattle.cs_machine.proofs.Pushes.{longer, on_ok_by}

@@ -1,4 +1,4 @@
-use Rattle.std.proofs.Common.{◌≡◌, ◌∙◌, ◌++◌, List, Option, ap, option_map, refl, subst, ℕ}
+use Rattle.std.proofs.Common.{◌≡◌, ◌∙◌, List, ap, refl, subst, ℕ}
 use Rattle.std.proofs.lemmas.Result.{on_ok_weaker}
 use Rattle.cs_args.specs.Asked.{asked_run}
 use Rattle.cs_machine.specs.Setup.{note_of}

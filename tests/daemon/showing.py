@@ -6,8 +6,8 @@ import time
 
 from harness import Fault, wanted
 
-from daemon import SOON, date_text, minute_now, minute_of, moment_text, moments_and_texts
-from tests import DAY, MINUTE, UNTIL, declared, due_at, output_name, program_of
+from daemon import SOON, date_text, minute_now, minute_of, moment_text, moments_and_texts, seconds_of
+from tests import DAY, MINUTE, UNTIL, declared, due_at, output_name, program_of, state_of
 from tests import written_state
 
 # leaves the input of a call and then its variables, all of these at once
@@ -175,6 +175,24 @@ def ten_jobs(room):
     look_at_calls(room, due + DAY, [*events, ("success", 7), ("recovered", 7), ("mail", 3)])
     room.stop()
     wanted("metric up of nobody", 0, metrics_of(room)[("cronsafe_up",)])
+
+
+def next_by_a_zone(room):
+    """What a daemon says of its runs in a part of the year in which the zone's clock is ahead."""
+    declarations = {**declared(1, [1]), "zone": "CET-1CEST,M3.5.0,M10.5.0/3"}
+    del declarations["offset"]
+    room.take(declarations, "30 2 * * * true\n")
+    due = seconds_of("2097-07-01T00:30:00Z")
+    room.set_clock(due - 5000)
+    room.step("--log", "log")
+    told = "2097-07-01 01:30 (2097-07-01 02:30 CEST)"
+    lines = state_of(room, f"next is line 1 due {told}")
+    wanted("the job's line", f"line 1 true: next {told}, no run yet", lines[-1])
+    clock = "runs are named by CET all year; CEST is 60 minutes ahead of it"
+    wanted("the clock in the log", 1, room.texts().count(clock))
+    room.set_clock(due - 5)
+    room.wait_for_logged("ended line 1 due 2097-07-01 01:30 status 0")
+    room.stop()
 
 
 def failures_of_hours(room):

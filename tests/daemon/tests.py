@@ -800,11 +800,12 @@ def states_by_hand(room):
             files += f" and {state['anacrontab']}" if state["anacrontab"] else ""
             counts = f"{COUNTS}, missed {state.get('missed', 0)}"
             limits = state.get("ended_at_limit")
+            local = f" ({state['next_due_local']})" if state.get("next_due_local") else ""
             lines = [
                 *(f"running since {state['since']}, seen at {state['at']}", f"{files}, capacity 3"),
                 f"{run['run']} runs since {run['since']}{told}" if state["running"] else told,
                 "line 2 due 2024-09-13 23:30 waits",
-                f"next is {state['next_due']}" if state.get("next_due") else "",
+                f"next is {state['next_due']}{local}" if state.get("next_due") else "",
                 counts if limits is None else f"{counts}, ended at their limit {limits}",
                 *jobs,
             ]

@@ -13,7 +13,8 @@ from model import calendar, certificate, crontab, rules, script
 from model.anacrontab import read_anacrontab
 from model.calendar import DAY
 from model.day import day_answer
-from model.declarations import GREATEST_MAX, lines_named, plain_plan, read_declared, read_plan
+from model.declarations import GREATEST_MAX, doubled_lines, lines_named, plain_plan
+from model.declarations import read_declared, read_plan
 from model.faults import Fault
 from model.nights import Zone, is_usable, night_answer
 from model.replay import replay_answer
@@ -164,7 +165,12 @@ def notes_of(plan):
         told.append(b"note: 1 longest time is a draft's guess\n")
     elif plan.guessed:
         told.append(b"note: %d longest times are a draft's guess\n" % plan.guessed)
-    return b"".join(told) + (NO_CONFLICT if decides_nothing(plan) else b"")
+    if decides_nothing(plan):
+        told.append(NO_CONFLICT)
+    if plan.zone is not None and len(plan.zone.names) > 1:
+        names = tuple(it.encode() for it in plan.zone.names)
+        told.append(b"note: times are by %s all year; those in brackets are by %s\n" % names)
+    return b"".join(told)
 
 
 def decides_nothing(plan):
@@ -278,11 +284,10 @@ class Call:
 
     def draft(self, found):
         self.look_at_max(found.get("max", 60))
-        self.read_tables(found)
-        if "UPDATE" in found:
-            read_declared(self.bytes_of(found["UPDATE"]))
+        table, _ = self.read_tables(found)
+        update = read_declared(self.bytes_of(found["UPDATE"])) if "UPDATE" in found else None
         self.warned = None
-        return 0, None
+        return (2, b"") if update is not None and doubled_lines(update, table) else (0, None)
 
     def judge(self, found):
         plan = self.read_placed_plan(found)

@@ -130,7 +130,8 @@ def item_of(text, field):
 def choice_of(text, field):
     numbers = {number for item in text.split(b",") for number in item_of(item, field)}
     is_weekday = field is FIELDS[4]
-    return Choice({it % 7 if is_weekday else it for it in numbers}, text.startswith(b"*"))
+    numbers = frozenset(it % 7 if is_weekday else it for it in numbers)
+    return Choice(numbers, text.startswith(b"*"))
 
 
 def fields_of(line):

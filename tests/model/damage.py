@@ -96,9 +96,9 @@ def without_split(chance, value):
 
 
 def are_due_alike(plan, kinds):
-    """Returns whether on the days of each class the same jobs are due, by a day tree."""
+    """Returns whether on the days of each class the same jobs are due then, by a day tree."""
     tree, cron = day_tree_said(kinds), [it for it in plan.jobs if it.is_cron]
-    due = {(class_in(tree, it), tuple(bool(job.due[it]) for job in cron)) for it in KINDS}
+    due = {(class_in(tree, it), tuple(tuple(job.due[it]) for job in cron)) for it in KINDS}
     return len(due) == len({number for number, _ in due})
 
 

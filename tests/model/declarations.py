@@ -3,11 +3,12 @@ import functools
 from collections import namedtuple
 
 from model.anacrontab import read_anacrontab
-from model.calendar import DAY, KINDS, is_day_due, minutes_of
+from model.calendar import DAY, KINDS, due_minutes, is_day_due, minutes_of
 from model.crontab import Command, read_crontab
 from model.faults import Fault
 from model.json_text import NotJson, OtherShape, doubled_member, items_of, numbers_of, read_json
 from model.json_text import whole
+from model.nights import Zone, is_usable, starts_on
 
 MODES = ("none", "skip", "try", "wait", "shared")
 MOST_GROUPS = 64
@@ -18,7 +19,7 @@ GREATEST_OFFSET = 1_439
 
 # What the bytes say; no default is none.
 Declared = namedtuple(
-    "Declared", "capacity offset hours pass_minute default groups cron anacron left_out"
+    "Declared", "capacity offset zone hours pass_minute default groups cron anacron left_out"
 )
 Group = namedtuple("Group", "name exclusive")
 Default = namedtuple("Default", "max weight")
@@ -34,15 +35,16 @@ Part = namedtuple("Part", "name max")
 # many have the default, are those of the crontab first; a member that an object has twice; how many
 # entries are a guess; the first line whose command others have too, and whose entry tells no schedule.
 PLAN = "crontab anacrontab jobs groups capacity hours pass_minute offset"
-PLAN += " left_out defaulted doubled guessed untimed"
-Plan = namedtuple("Plan", PLAN, defaults=[[], 0, None, 0, None])
+PLAN += " left_out defaulted doubled guessed untimed zone"
+Plan = namedtuple("Plan", PLAN, defaults=[[], 0, None, 0, None, None])
 
 
 class Job:
-    """A job of a plan: `of` is the command or the job of its table."""
+    """A job of a plan: `of` is the command or the job of its table, `zone` that of the plan."""
 
-    def __init__(self, of, longest, weight=1, group=None, mode="none"):
+    def __init__(self, of, longest, weight=1, group=None, mode="none", zone=None):
         self.of, self.max, self.weight, self.group, self.mode = of, longest, weight, group, mode
+        self.zone = zone
         self.is_cron = isinstance(of, Command)
         self.name = b"line %d" % of.line if self.is_cron else of.identifier
         self.takes_lock, self.shares = mode != "none", mode == "shared"
@@ -53,7 +55,13 @@ class Job:
     def due(self):
         """The due minutes of a command on each kind of day."""
         schedule, minutes = self.of.schedule, minutes_of(self.of.schedule)
+        if self.zone is not None:
+            starts = starts_on(self.zone, schedule)
+            return {kind: [*dict.fromkeys(starts[kind])] for kind in KINDS}
         return {kind: minutes if is_day_due(schedule, kind) else [] for kind in KINDS}
+
+    def due_on(self, kind):
+        return due_minutes(self.of.schedule, kind) if self.zone is None else self.due[kind]
 
 
 def such_that(is_right):
@@ -143,6 +151,7 @@ def anacron_entry(value):
 DECLARATIONS = {
     "capacity": (whole, REQUIRED),
     "offset": (offset, 0),
+    "zone": (text, None),
     "hours": (lambda value: tuple(numbers_of(value, 2)), (0, DAY)),
     "pass": (whole, None),
     "default": (object_of(Default, DEFAULT), None),
@@ -155,6 +164,8 @@ DECLARATIONS = {
 
 def declared_of(value):
     found = members(value, DECLARATIONS)
+    if "offset" in value and "zone" in value:
+        raise OtherShape
     return Declared(pass_minute=found.pop("pass"), **found)
 
 
@@ -203,6 +214,10 @@ def faults_alone(declared):
     minute = declared.pass_minute
     yield "BadPassMinute", [] if minute is None or 0 <= minute < DAY else [b""]
     yield "BadParts", places(b"cron", [it.parts and are_bad(it.parts, it.max) for it in declared.cron])
+    if declared.zone is not None:
+        yield "BadZone", [] if is_usable(declared.zone) else [b""]
+        yield "HoursInZone", [] if declared.hours == (0, DAY) else [b""]
+        yield "PassInZone", [] if minute is None else [b""]
 
 
 def are_bad(parts, longest):
@@ -260,6 +275,29 @@ def faults_of_tables(declared, crontab, anacrontab):
     yield "Undeclared", [] if declared.default else undeclared(declared, rest, anacrontab, lines)
     yield "RebootLine", reboot_places(rest)
     yield "OtherSchedule", sum(of_names(lambda it: is_mistimed(it, crontab)), [])
+    yield "StartsTwice", [b"line %d" % it for it in doubled_lines(declared, crontab)]
+
+
+@functools.cache
+def zone_by(rule):
+    return Zone(rule)
+
+
+def zone_of(declared):
+    """Returns the zone by whose clock lines are due, none where all days have the same clock."""
+    return None if declared.zone is None else zone_by(declared.zone)
+
+
+def is_doubled(schedule, zone):
+    """Returns whether cron starts a line more than once in some minute."""
+    return any(len(set(it)) < len(it) for it in starts_on(zone, schedule).values())
+
+
+def doubled_lines(declared, crontab):
+    """Returns such lines by the clock of the zone, of those that aren't left out."""
+    out = [line for it in declared.left_out for line in lines_named(it, crontab)]
+    its, zone = without_lines(crontab, out).commands, zone_of(declared)
+    return [it.line for it in its if zone and it.schedule and is_doubled(it.schedule, zone)]
 
 
 def without_lines(crontab, numbers):
@@ -285,16 +323,19 @@ def joined(declared, crontab, anacrontab):
     entries |= {line: it for it in declared.cron for line in lines_named(it.job, crontab)}
     left_out = sorted(line for it in declared.left_out for line in lines_named(it, crontab))
     rest, jobs, defaulted = without_lines(crontab, left_out), [], 0
+    zone = zone_of(declared)
     for of in (*rest.commands, *anacrontab.jobs):
         it = entries.get(of.line if isinstance(of, Command) else identifier_text(of))
         if it is None:
             defaulted += 1
-            jobs.append(Job(of, *declared.default))
+            jobs.append(Job(of, *declared.default, zone=zone))
         else:
-            jobs.append(Job(of, it.max, it.weight, groups[it.group], it.mode or "none"))
+            its = it.max, it.weight, groups[it.group], it.mode or "none"
+            jobs.append(Job(of, *its, zone))
     more = declared.groups, declared.capacity, declared.hours, declared.pass_minute
     guessed = sum(it.guess for it in [*declared.cron, *declared.anacron])
-    plan = Plan(rest, anacrontab, jobs, *more, declared.offset, left_out, defaulted)
+    offset = declared.offset if zone is None else zone.offset
+    plan = Plan(rest, anacrontab, jobs, *more, offset, left_out, defaulted, zone=zone)
     return plan._replace(guessed=guessed, untimed=untimed(declared, crontab))
 
 

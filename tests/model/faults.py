@@ -8,7 +8,8 @@ NAMES = {
     " BadIdentifier TwiceNamed Continued TooManyJobs",
     "declarations": "NotJson BadShape NoSuchLine Undeclared TwiceDeclared BadMax BadWeight"
     " BadCapacity ModeNeedsGroup UnknownGroup TooManyGroups BadHours ModeOnAnacron RebootLine"
-    " BadPassMinute OtherCommand AmbiguousCommand BadParts OtherSchedule OtherParts",
+    " BadPassMinute OtherCommand AmbiguousCommand BadParts OtherSchedule OtherParts BadZone"
+    " HoursInZone PassInZone StartsTwice",
     "certificate": "TooLong NotJson BadVersion BadShape TooDeep BadSplit BadClass BadEntry"
     " TooManyClasses LeafTooLong",
     "script": "TooLong BadLine BadDate UnknownName NoStart",

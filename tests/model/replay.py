@@ -10,7 +10,7 @@ from itertools import combinations
 from typing import NamedTuple
 
 from model.anacrontab import MONTHLY
-from model.calendar import DAY, date_of, due_minutes, kind_of, minute_text
+from model.calendar import DAY, date_of, kind_of, minute_text
 
 REFUSALS = "NotUp AlreadyUp WrongMinute NotSettled NotDue LockHeld NotWaiting NotRunning".split()
 REFUSALS += ["NotCatchable"]
@@ -72,9 +72,8 @@ class Rules:
         return getattr(self, event.kind)(state, event)
 
     def due_at(self, minute):
-        kind, minute = kind_of(minute // DAY), minute % DAY
-        schedules = [it.schedule for it in self.plan.crontab.commands]
-        return tuple(job for job, it in enumerate(schedules) if minute in due_minutes(it, kind))
+        kind, minute, jobs = kind_of(minute // DAY), minute % DAY, enumerate(self.jobs)
+        return tuple(job for job, it in jobs if it.is_cron and minute in it.due_on(kind))
 
     def is_free(self, state, job):
         """Returns whether a job gets its lock: it takes none, or it is free, or all share it."""

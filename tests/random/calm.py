@@ -20,18 +20,19 @@ LONGEST_WAIT = 12
 
 
 class Calendar:
-    """The days, each with the numbers of the cron jobs that are due on it."""
+    """The days, each with the cron jobs that are due then: their numbers, and where `times` are."""
 
     def __init__(self, plan):
-        self.plan, days = plan, range(FIRST, LAST)
-        cron = [(number, it) for number, it in enumerate(plan.jobs) if it.is_cron]
-        kinds = [kind_of(day) for day in days]
-        due = {kind: tuple(number for number, it in cron if it.due[kind]) for kind in set(kinds)}
-        self.due = {day: due[kind] for day, kind in zip(days, kinds)}
+        self.plan, days, known = plan, range(FIRST, LAST), {}
+        kinds, due = [kind_of(day) for day in days], {}
+        for kind in set(kinds):
+            its = [(at, tuple(it.due[kind])) for at, it in enumerate(plan.jobs) if it.is_cron]
+            due[kind] = tuple((at, known.setdefault(it, len(known))) for at, it in its if it)
+        self.due, self.times = {day: due[kind] for day, kind in zip(days, kinds)}, [*known]
 
-    def minutes(self, day, number):
-        """Returns the due minutes of a job on a day, since 1970."""
-        return [day * DAY + it for it in self.plan.jobs[number].due[kind_of(day)]]
+    def minutes(self, day, place):
+        """Returns the times at a place, on a day, since 1970."""
+        return [day * DAY + it for it in self.times[place]]
 
 
 def fault_of_day(plan, windows):
@@ -81,10 +82,10 @@ def waiting_groups(plan):
 def cron_windows(calendar, day, groups):
     """Yields the windows of jobs due on a day or before it, but for lock takers of groups."""
     for back in range(BACK + 1):
-        for number in calendar.due[day - back]:
+        for number, place in calendar.due[day - back]:
             job = calendar.plan.jobs[number]
             if not (job.takes_lock and job.group in groups):
-                for minute in calendar.minutes(day - back, number):
+                for minute in calendar.minutes(day - back, place):
                     start = minute - day * DAY
                     yield Window(start, number, start + job.max, job)
 
@@ -116,8 +117,8 @@ def windows_by(windows_of, plan, calendar, **more):
         takers = [at for at, it in enumerate(plan.jobs) if it.takes_lock and it.group == group]
         runs = []
         for day, due in calendar.due.items():
-            numbers = [it for it in due if it in takers]
-            runs += sorted((at, it) for it in numbers for at in calendar.minutes(day, it))
+            numbers = [it for it in due if it[0] in takers]
+            runs += sorted((at, it) for it, place in numbers for at in calendar.minutes(day, place))
         windows = windows_of(plan, runs, **more)
         if windows is None:
             return None

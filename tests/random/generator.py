@@ -1,7 +1,13 @@
 """Random plans: the bytes of a crontab, of declarations and perhaps of an anacrontab, by names."""
 import json
+import re
 from functools import partial
 from pathlib import Path
+
+from model.calendar import DAYS_IN
+from model.crontab import read_crontab
+from model.declarations import is_doubled, zone_by
+from model.nights import is_usable
 
 # day of the month, month, weekday
 DAYS = Path(__file__).with_name("days").read_text().splitlines()
@@ -14,6 +20,8 @@ MODES = {
 # How an entry names its line.
 NAMES = [["line"], ["command"], ["line", "command"]]
 PERIODS = ["1", "7", "@daily", "@weekly", "@monthly", "30"]
+RULES = Path(__file__).parents[1].joinpath("zones/rules").read_text().splitlines()[1:]
+RULES = [it for it in (line.split()[1] for line in RULES) if is_usable(it) and "," in it]
 
 
 def minute_and_hour(rng, often):
@@ -104,6 +112,39 @@ def random_catch_up(rng, said, groups):
         if has_entry(rng, said):
             said["anacron"].append(its)
     return anacrontab
+
+
+def schedule_about(rng, rule, often):
+    """Returns the five fields of a line, most likely due about a jump of a zone's clock."""
+    month, week, weekday = map(int, rng.choice(re.findall(r"M(\d+)\.(\d)\.(\d)", rule)))
+    first, last = min(7 * week - 6, DAYS_IN[month] - 7), DAYS_IN[month]
+    days = [f"{first}-{first + 7} {month} *", f"{first}-{last}/2 {month} *", rng.choice(DAYS)]
+    days += [f"* {month} {weekday}", f"*/2 {month} {weekday}", f"* * {(weekday + 1) % 7}"]
+    minute = rng.choice(["0", "30", "59", "15,45", "5-55/25", "*/30"])
+    hour = rng.choice(["0", "1", "2", "1-3", "2,23", "*/8", "*,2"])
+    time = minute_and_hour(rng, often) if rng.random() < 0.7 else f"{minute} {hour}"
+    line = f"{time} {rng.choice(['* * *'] * 5 + days)}"
+    [command] = read_crontab(f"{line} a".encode()).commands
+    is_again = is_doubled(command.schedule, zone_by(rule))
+    return schedule_about(rng, rule, often) if is_again else line
+
+
+def zoned_plan(rng, modes):
+    """The same by the clock of a zone, with catch-up in all hours."""
+    rule, count = rng.choice(RULES), rng.choice([1, 1, 2])
+    often = rng.sample([*range(300), *range(1320, 1440)], 6)
+    schedules = [schedule_about(rng, rule, often) for _ in range(rng.randint(2, 5))]
+
+    def longest():
+        return rng.randint(1, rng.choice([5, 20, 60, 120]))
+
+    crontab, said = with_lines(rng, modes, count, schedules, longest, [2, 3, 4, 5, 64])
+    anacrontab, said["zone"] = "", rule
+    if rng.random() < 0.15:
+        anacrontab = random_catch_up(rng, said, count)
+        del said["hours"]
+        said.pop("pass", None)
+    return files_of(crontab, said, anacrontab)
 
 
 def tiny_plan(rng, modes, noon):

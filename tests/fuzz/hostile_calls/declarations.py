@@ -59,7 +59,7 @@ def doubled_members():
     tables = TABLES_OF_WHOLE
     others = (b"0", b"null", b"[]", b'"x"', b"true", b"2", b"[5,5]", b"{}", b'{"max":2}')
     yield call_of("no member twice", b"declarations", WHOLE, tables)
-    for name in b"capacity offset hours pass groups cron anacron left_out default note".split():
+    for name in b"capacity offset zone hours pass groups cron anacron left_out default note".split():
         for other in others:
             member = b'"' + name + b'":' + other
             texts = WHOLE[:-1] + b"," + member + b"}", b"{" + member + b"," + WHOLE[1:]

@@ -1,42 +1,49 @@
 -- One bit of several words.
-use Rattle.std.proofs.Common.{◌≡◌, ◌≢◌, ℕ, zero, suc, ◌+◌, ◌-◌, ◌*◌, ◌/◌, ◌%◌, ◌^◌, ◌<◌, ◌≤◌, Bool, true, false, cond, ◌||◌, nat_eq, bit_or, max, List, [], ◌∷◌, ◌++◌, length, get_or, set, replicate, refl, ap, ◌∙◌, arith, inl, inr, filter, get_or-set_same, get_or-set_other}
+use Rattle.std.proofs.Common.{◌≡◌, ◌≢◌, ℕ, zero, suc, ◌+◌, ◌-◌, ◌*◌, ◌/◌, ◌%◌, ◌^◌, ◌<◌, ◌≤◌, Bool, true, false, cond, ◌&&◌, ◌||◌, nat_eq, bit_or, max, List, [], ◌∷◌, ◌++◌, length, get_or, set, replicate, refl, ap, sym, ◌∙◌, ◌⊎◌, arith, inl, inr, filter, get_or-set_same, get_or-set_other}
 use Rattle.std.specs.List.{range_with_len}
 use Rattle.std.specs.Int.{bit_at, w64}
 use Rattle.std.proofs.lemmas.Bool.Decides.{eqb_tells}
-use Rattle.std.proofs.lemmas.Nat.Bits.{bit_at_set_same, bit_at_set_other, bit_at-zero, bit_at_or, bit_at-lt}
+use Rattle.std.proofs.lemmas.Bool.{cases_eq, eq-eqb, ne_eqb, or_right}
+use Rattle.std.proofs.lemmas.Nat.{one_shl}
+use Rattle.std.proofs.lemmas.Nat.Bits.{bit_at-pow_same, bit_at-pow_other, bit_at_set_same, bit_at_set_other, bit_at-zero, bit_at_or, bit_at-lt}
 use Rattle.std.proofs.lemmas.List.{length-append}
 use Rattle.cs_schedule.specs.Numbers.{has_bit}
 use Rattle.cs_schedule.specs.Minutes.{is_in, minutes_from}
 
-with_bit : List ℕ → ℕ → List ℕ
-with_bit words m = set words (m / 64) (bit_or (get_or words (m / 64) 0) (1 * 2 ^ (m % 64) % 2 ^ 64))
+either : (a b : ℕ) → a < 2 → b < 2 → nat_eq (max a b) 1 ≡ (nat_eq a 1 || nat_eq b 1)
+either zero zero p q = refl
+either zero (suc b) p q = let e : b ≡ 0 = omega arith in rw e refl
+either (suc a) zero p q = let e : a ≡ 0 = omega arith in rw e refl
+either (suc a) (suc b) p q = let e : a ≡ 0 = omega arith in let f : b ≡ 0 = omega arith in rw (e, f) refl
 
-bit_same : (words : List ℕ) (m : ℕ) → length words ≡ 23 → m < 1440 → is_in (with_bit words m) m ≡ true
-unfolding with_bit
-bit_same words m len below =
-    let inside : m / 64 < length words = omega arith in
-    let low : m % 64 < 64 = omega arith in
-    rw get_or-set_same (ap (λ b. nat_eq b 1) (bit_at_set_same w64 (get_or words (m / 64) 0) (m % 64) low))
+pub either_in : (v w k : ℕ) → has_bit (bit_or v w) k ≡ (has_bit v k || has_bit w k)
+either_in v w k = rw bit_at_or (either (bit_at v k) (bit_at w k) (bit_at-lt v k) (bit_at-lt w k))
 
-bit_other : (words : List ℕ) (m k : ℕ) → length words ≡ 23 → m < 1440 → k ≢ m → is_in (with_bit words m) k ≡ is_in words k
-unfolding with_bit
-bit_other words m k len below ne =
-    let low : m % 64 < 64 = omega arith in
-    elim (eqb_tells (k / 64) (m / 64)) [
-      | inl same ↦
-          let inside : m / 64 < length words = omega arith in
-          let apart : k % 64 ≢ m % 64 = λ e. ne (omega (arith, same.1)) in
-          rw (same.1, get_or-set_same) (ap (λ b. nat_eq b 1) (bit_at_set_other w64 (get_or words (m / 64) 0) (m % 64) low (k % 64) apart))
-      | inr other ↦ let far : k / 64 ≢ m / 64 = other.1 in rw get_or-set_other refl
+none_or : (b : Bool) → (b || false) ≡ b
+none_or true = refl
+none_or false = refl
+
+-- the bits of one word are added
+pub put_word : (words : List ℕ) (place bits : ℕ) → place < length words → (k : ℕ) → is_in (set words place (bit_or (get_or words place 0) bits)) k ≡ (is_in words k || (nat_eq (k / 64) place && has_bit bits (k % 64)))
+put_word words place bits inside k =
+    elim (eqb_tells (k / 64) place) [
+      | inl same ↦ rw (same.0, same.1, get_or-set_same) (either_in (get_or words place 0) bits (k % 64))
+      | inr other ↦ let far : k / 64 ≢ place = other.1 in rw (other.0, get_or-set_other) (sym (none_or (is_in words k)))
     ]
 
-pub put_bit : (words : List ℕ) (m : ℕ) → length words ≡ 23 → m < 1440 → (k : ℕ) → is_in (set words (m / 64) (bit_or (get_or words (m / 64) 0) (1 * 2 ^ (m % 64) % 2 ^ 64))) k ≡ (nat_eq k m || is_in words k)
-unfolding with_bit
-put_bit words m len below k =
-    elim (eqb_tells k m) [
-      | inl same ↦ rw (same.0, same.1) (bit_same words m len below)
-      | inr other ↦ rw other.0 (bit_other words m k len below other.1)
-    ]
+-- a bit alone
+pub put_minute : (old : Bool) (m k : ℕ) → (old || (nat_eq (k / 64) (m / 64) && has_bit (1 * 2 ^ (m % 64) % 2 ^ 64) (k % 64))) ≡ (nat_eq k m || old)
+put_minute old m k = ap (λ (n : ℕ). old || (nat_eq (k / 64) (m / 64) && has_bit n (k % 64))) (one_shl (m % 64) 64 (omega arith)) ∙ by (cases_eq k m) (cases_eq (k / 64) (m / 64))
+  where
+    by : (k ≡ m) ⊎ (k ≡ m → ⊥) → (k / 64 ≡ m / 64) ⊎ (k / 64 ≡ m / 64 → ⊥) → (old || (nat_eq (k / 64) (m / 64) && has_bit (2 ^ (m % 64)) (k % 64))) ≡ (nat_eq k m || old)
+    by (inl same) _ = rw (eq-eqb k m same, same, eq-eqb (m / 64) (m / 64) refl, bit_at-pow_same (m % 64)) (or_right old true refl)
+    by (inr other) (inl place) = rw (ne_eqb k m other, bit_at-pow_other (m % 64) (k % 64) (λ e. other (omega (arith, place, e)))) (none old (nat_eq (k / 64) (m / 64)))
+      where
+        none : (old b : Bool) → (old || (b && false)) ≡ old
+        none true b = refl
+        none false true = refl
+        none false false = refl
+    by (inr other) (inr far) = rw (ne_eqb k m other, ne_eqb (k / 64) (m / 64) far) (none_or old)
 
 pub filter_more : (p : ℕ → Bool) (a k j : ℕ) → a + k ≡ j → filter p (range_with_len a (suc k)) ≡ filter p (range_with_len a k) ++ cond (p j) (j ∷ []) []
 filter_more p a zero j e = let same : a ≡ j = omega arith in rw same (nothing (p j))
@@ -93,12 +100,3 @@ put_in word n k below =
       | inl same ↦ rw (same.0, same.1) (ap (λ b. nat_eq b 1) (bit_at_set_same w64 word n below))
       | inr other ↦ rw other.0 (ap (λ b. nat_eq b 1) (bit_at_set_other w64 word n below k other.1))
     ]
-
-either : (a b : ℕ) → a < 2 → b < 2 → nat_eq (max a b) 1 ≡ (nat_eq a 1 || nat_eq b 1)
-either zero zero p q = refl
-either zero (suc b) p q = let e : b ≡ 0 = omega arith in rw e refl
-either (suc a) zero p q = let e : a ≡ 0 = omega arith in rw e refl
-either (suc a) (suc b) p q = let e : a ≡ 0 = omega arith in let f : b ≡ 0 = omega arith in rw (e, f) refl
-
-pub either_in : (v w k : ℕ) → has_bit (bit_or v w) k ≡ (has_bit v k || has_bit w k)
-either_in v w k = rw bit_at_or (either (bit_at v k) (bit_at w k) (bit_at-lt v k) (bit_at-lt w k))

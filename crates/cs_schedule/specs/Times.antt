@@ -1,8 +1,9 @@
 -- When a command is due (crontab(5)).
-use Rattle.std.specs.Prelude.{ℕ, Bool, List, All, ◌≤◌, ◌&&◌, ◌||◌, if◌then◌else◌, ◌/◌, ◌%◌}
+use Rattle.std.specs.Prelude.{ℕ, Bool, List, All, ◌≤◌, ◌&&◌, ◌||◌, if◌then◌else◌, ◌+◌, ◌/◌, ◌%◌}
 use Rattle.cs_civil.specs.Calendar.{Kind}
 use Rattle.cs_schedule.specs.declared.part.Part.{Part}
 use Rattle.cs_schedule.specs.declared.part.Part.TheVariants.{Minute, Hour, Dom, Month, Dow}
+use Rattle.cs_schedule.specs.Minutes.{is_shown}
 use Rattle.cs_schedule.specs.Numbers.{has}
 use Rattle.cs_schedule.specs.Part.{first_of}
 
@@ -50,6 +51,12 @@ pub record IsPossible (s : Times) : Type 0 where
 -- the hour and the minute of the hour are listed
 abbrev pub is_time_due : Times → ℕ → Bool
 is_time_due s minute = has s.hour.numbers (minute / 60) && has s.minute.numbers (minute % 60)
+
+-- a clock that is so many minutes ahead shows a time that is listed, from one time on and before
+-- another
+abbrev pub is_time_shown : Times → ℕ → ℕ → ℕ → ℕ → Bool
+is_time_shown s turn from to minute =
+    is_shown s.hour.numbers s.minute.numbers from to ((minute + turn) % 1440)
 
 -- The month is listed, and so are the day of the month and the weekday; if neither of these two
 -- fields begins with `*`, one of the two is enough.

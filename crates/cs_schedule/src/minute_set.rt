@@ -1,8 +1,8 @@
-ghost use Rattle.std.specs.Prelude.{◌≡◌, ◌<◌, ◌≤◌, ◌+◌, ◌*◌, ◌/◌, ◌%◌, [], ℕ, length, nat_eq, true, false, ◌||◌, ◌&&◌, ◌↔◌, IsTrue};
+ghost use Rattle.std.specs.Prelude.{◌≡◌, ◌<◌, ◌≤◌, ◌+◌, ◌-◌, ◌*◌, ◌/◌, ◌%◌, [], ℕ, length, nat_eq, true, false, ◌||◌, ◌&&◌, ◌↔◌, IsTrue};
 ghost use Rattle.std.specs.Iterator.{YieldsFirst, item_count};
 ghost use Rattle.std.specs.Int.{bit_at};
 ghost use Rattle.cs_schedule.specs.Numbers.{has, has_bit};
-ghost use Rattle.cs_schedule.specs.Minutes.{is_in, minutes_in, minutes_where};
+ghost use Rattle.cs_schedule.specs.Minutes.{is_in, is_shown, minutes_in, minutes_where};
 
 use crate::numbers::Numbers;
 use std::iter::FusedIterator;
@@ -26,25 +26,29 @@ impl Model for MinuteSet {
     ghost view = { λ s. minutes_in s.words };
 }
 
-fn put(words: &mut [u64; 23], minute: u16)
-    requires { minute < 1440 }
-    ensures { (k : ℕ) → k < 1440 → is_in words.new k ≡ (nat_eq k minute || is_in words.old k) }
-{
-    let place = (minute / 64) as usize;
-    words[place] |= 1u64 << (minute % 64);
-}
-
-fn put_hour(words: &mut [u64; 23], hour: u8, numbers: &Numbers)
-    requires { hour < 24 }
+/// Adds the minutes of the word at this place whose bits are set.
+fn put(words: &mut [u64; 23], place: u16, bits: u64)
     ensures { (k : ℕ) → k < 1440
         → is_in words.new k
-        ≡ (is_in words.old k || (nat_eq (k / 60) hour && has numbers.now (k % 60))) }
+        ≡ (is_in words.old k || (nat_eq (k / 64) place && has_bit bits (k % 64))) }
 {
-    for minute in 0..60 {
-        if numbers.has(minute) {
-            put(words, u16::from(hour) * 60 + u16::from(minute));
-        }
+    if place < 23 {
+        words[place as usize] |= bits;
     }
+}
+
+/// Adds the minutes of an hour whose bits are set, from its first minute on. Those past midnight
+/// count from the beginning of the day.
+fn put_hour(words: &mut [u64; 23], first: u16, hour: u64)
+    requires first { first < 1440 }
+    requires hour { (i : ℕ) → 60 ≤ i → has_bit hour i ≡ false }
+    ensures { (k : ℕ) → k < 1440
+        → is_in words.new k ≡ (is_in words.old k || has_bit hour ((k + 1440 - first) % 1440)) }
+{
+    let (place, shift) = (first / 64, first % 64);
+    put(words, place, hour << shift);
+    put(words, place + 1, (hour >> 1) >> (63 - shift));
+    put(words, 0, hour >> (1440 - first).min(63));
 }
 
 fn is_set(words: &[u64; 23], minute: u16) -> bool
@@ -95,14 +99,28 @@ impl MinuteSet {
         MinuteSet { words: [0; 23] }
     }
 
-    pub(crate) fn of_times(hours: &Numbers, minutes: &Numbers) -> MinuteSet
-        ensures { result ≡ minutes_where (λ k. has hours.now (k / 60) && has minutes.now (k % 60)) }
+    /// Returns the minutes in which a clock that is `turn` minutes ahead shows one of these times,
+    /// from the time `from` on and before `to`.
+    pub(crate) fn of_times(
+        hours: &Numbers,
+        minutes: &Numbers,
+        turn: u16,
+        from: u16,
+        to: u16,
+    ) -> MinuteSet
+        requires { turn ≤ 1440 }
+        ensures { result
+            ≡ minutes_where (λ k. is_shown hours.now minutes.now from to ((k + turn) % 1440)) }
     {
         let mut words = [0u64; 23];
-        for hour in 0..24 {
-            if hours.has(hour) {
-                put_hour(&mut words, hour, minutes);
-            }
+        let mut hour = lowest_bit(hours.bits_between(0, 24));
+        while hour < 24 {
+            let start = 60 * hour;
+            let low = from.saturating_sub(start).min(60);
+            let high = to.saturating_sub(start).min(60);
+            let first = (start + 1440 - turn) % 1440;
+            put_hour(&mut words, first, minutes.bits_between(low, high));
+            hour = lowest_bit(hours.bits_between(hour + 1, 24));
         }
         MinuteSet { words }
     }
@@ -112,7 +130,7 @@ impl MinuteSet {
         requires { minute < 1440 }
         ensures { self.new ≡ minutes_where (λ k. nat_eq k minute || has self.old k) }
     {
-        put(&mut self.words, minute);
+        put(&mut self.words, minute / 64, 1 << (minute % 64));
     }
 
     /// Whether the minute is one of the set: false from 1,440 on.

@@ -1,4 +1,4 @@
-ghost use Rattle.std.specs.Prelude.{◌≡◌, ◌<◌, ◌≤◌, ◌||◌, [], ℕ, nat_eq, All};
+ghost use Rattle.std.specs.Prelude.{◌≡◌, ◌<◌, ◌≤◌, ◌||◌, ◌&&◌, [], ℕ, nat_eq, nat_le, nat_lt, All};
 ghost use Rattle.cs_schedule.specs.Numbers.{has, has_bit, is_every, numbers_where, in_week, is_in_week};
 
 use std::marker::Model;
@@ -89,6 +89,15 @@ impl Numbers {
             }
         }
         Numbers { word }
+    }
+
+    /// Returns those from `low` on and before `high`, a bit each.
+    pub(crate) fn bits_between(&self, low: u16, high: u16) -> u64
+        requires { (low ≤ 60) × (high ≤ 60) }
+        ensures { (k : ℕ)
+            → has_bit result k ≡ (nat_le low k && (nat_lt k high && has self.now k)) }
+    {
+        self.word & ((1u64 << high) - 1) & (u64::MAX << low)
     }
 
     /// Whether the number is one of these.

@@ -1,8 +1,8 @@
-ghost use Rattle.std.specs.Prelude.{◌≡◌, ◌/◌, ◌%◌, ◌<◌};
+ghost use Rattle.std.specs.Prelude.{◌≡◌, ◌/◌, ◌%◌, ◌<◌, ◌≤◌};
 ghost use Rattle.cs_civil.specs.Calendar.{kind};
 ghost use Rattle.cs_schedule.specs.declared.part.Part.TheVariants as part;
 ghost use Rattle.cs_schedule.specs.Minutes.{minutes_where};
-ghost use Rattle.cs_schedule.specs.Times.{IsWithin, choice_of, is_day_due, is_due, is_time_due, times};
+ghost use Rattle.cs_schedule.specs.Times.{IsWithin, choice_of, is_day_due, is_due, is_time_due, is_time_shown, times};
 
 use crate::field::Field;
 use crate::minute_set::MinuteSet;
@@ -112,7 +112,16 @@ impl Schedule {
     pub fn times(&self) -> MinuteSet
         ensures { result ≡ minutes_where (is_time_due self.now) }
     {
-        MinuteSet::of_times(self.hour.numbers(), self.minute.numbers())
+        self.times_shown(0, 0, 1_440)
+    }
+
+    /// Returns the minutes of a day in which a clock that is `turn` minutes ahead shows one of these
+    /// times, from the time `from` on and before `to`, in minutes of its day.
+    pub fn times_shown(&self, turn: u16, from: u16, to: u16) -> MinuteSet
+        requires { turn ≤ 1440 }
+        ensures { result ≡ minutes_where (is_time_shown self.now turn from to) }
+    {
+        MinuteSet::of_times(self.hour.numbers(), self.minute.numbers(), turn, from, to)
     }
 
     /// Returns the minutes at which the command is due on a day of this kind.

@@ -178,25 +178,25 @@ still z s k minute h lt none =
 
 -- ---- minutes in which no time is listed that the wall may show
 
--- it shows the time of the plan's clock, or one that is a saving later or earlier
-nearby : (z : Zone) (k : Kind) (minute : ℕ) (test : ℕ → Bool) → IsZone z → minute < 1440 → test minute ≡ false → test ((minute + z.saving) % 1440) ≡ false → test ((minute + 1440 - z.saving) % 1440) ≡ false → test (wall z k (minute_on k minute) % 1440) ≡ false
-nearby z k minute test h lt here later earlier = by (is_away z k (minute_on k minute)) refl z.ahead refl
+-- it shows the time of the plan's clock or of the shifted one
+nearby : (z : Zone) (k : Kind) (minute : ℕ) (test : ℕ → Bool) → IsZone z → minute < 1440 → test minute ≡ false → test ((minute + turn z) % 1440) ≡ false → test (wall z k (minute_on k minute) % 1440) ≡ false
+nearby z k minute test h lt here turned = by (is_away z k (minute_on k minute)) refl z.ahead refl
   where
     at : (m : ℕ) → test m ≡ false → wall z k (minute_on k minute) % 1440 ≡ m → test (wall z k (minute_on k minute) % 1440) ≡ false
     at m none same = ap test same ∙ none
 
     by : (away : Bool) → is_away z k (minute_on k minute) ≡ away → (ahead : Bool) → z.ahead ≡ ahead → test (wall z k (minute_on k minute) % 1440) ≡ false
     by false e _ _ = at minute here (rw e (omega arith))
-    by true e true f = at ((minute + z.saving) % 1440) later (rw (e, f) (omega arith))
+    by true e true f = at ((minute + turn z) % 1440) turned (rw (e, f) (omega arith))
     by true e false f =
         let low : z.saving ≤ 1440 * march_day k = grind (arith, nat_tests, bounds z k h, h.saving, e) in
-        at ((minute + 1440 - z.saving) % 1440) earlier (rw (e, f) (omega (arith, low, h.saving)))
+        at ((minute + turn z) % 1440) turned (rw (e, f) (omega (arith, low, h.saving)))
 
-pub unlisted : (z : Zone) (s : Times) (k : Kind) (minute : ℕ) → IsZone z → minute < 1440 → is_time_due s minute ≡ false → is_time_due s ((minute + z.saving) % 1440) ≡ false → is_time_due s ((minute + 1440 - z.saving) % 1440) ≡ false → minute_on k minute ≢ forward z k → false ≡ is_due z s k minute
+pub unlisted : (z : Zone) (s : Times) (k : Kind) (minute : ℕ) → IsZone z → minute < 1440 → is_time_due s minute ≡ false → is_time_due s ((minute + turn z) % 1440) ≡ false → minute_on k minute ≢ forward z k → is_due z s k minute ≡ false
 unfolding starts
-unlisted z s k minute h lt here later earlier before =
+unlisted z s k minute h lt here turned before =
     let t = minute_on k minute in
-    let no : is_time_due s (wall z k t % 1440) ≡ false = nearby z k minute (is_time_due s) h lt here later earlier in
+    let no : is_time_due s (wall z k t % 1440) ≡ false = nearby z k minute (is_time_due s) h lt here turned in
     let dark : is_shown s k (wall z k t) ≡ false = ap (λ (b : Bool). b && is_day_due s (kind_on k (wall z k t / 1440))) no ∙ unless (is_day_due s (kind_on k (wall z k t / 1440))) in
     rw (dark, not_late z s k t before) (by (is_by_wall s) (is_second z k t))
   where
@@ -204,7 +204,7 @@ unlisted z s k minute h lt here later earlier before =
     unless true = refl
     unless false = refl
 
-    by : (fixed second : Bool) → false ≡ nat_lt 0 (cond fixed (one_if false) (one_if (false && not second) + 0))
+    by : (fixed second : Bool) → nat_lt 0 (cond fixed (one_if false) (one_if (false && not second) + 0)) ≡ false
     by true true = refl
     by true false = refl
     by false true = refl

@@ -34,10 +34,6 @@ abbrev pub is_due_shifted : Zone → Times → Bool → Bool → ℕ → Bool
 is_due_shifted z s same other minute =
     (if is_turned z minute then other else same) && is_time_due s ((minute + turn z) % 1440)
 
--- below a minute, and passes the test
-abbrev pub is_below : (ℕ → Bool) → ℕ → ℕ → Bool
-is_below test n minute = nat_lt minute n && test minute
-
 -- how the due minutes of a day come from the fields: of one on which the wall is shifted, by whether
 -- the days that it shows are listed
 abbrev pub shifted_shape : Bool → Bool → Shape

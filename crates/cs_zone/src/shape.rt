@@ -1,49 +1,44 @@
-ghost use Rattle.std.specs.Prelude.{◌≡◌, ◌<◌, ◌≤◌, ◌+◌, ◌/◌, ◌%◌, ◌&&◌, ◌==◌, ℕ, Bool, true};
+ghost use Rattle.std.specs.Prelude.{◌≡◌, ◌<◌, ◌≤◌, ◌&&◌, ◌||◌, ℕ, Bool, true};
 ghost use Rattle.cs_schedule.specs.Minutes.{minutes_where};
 ghost use Rattle.cs_schedule.specs.Numbers.{has};
 ghost use Rattle.cs_schedule.specs.Times.{Times, is_day_due, is_time_due};
 ghost use Rattle.cs_zone.specs.Starts.{is_due};
-ghost use Rattle.cs_zone.specs.Wall.{forward};
-ghost use Rattle.cs_zone.specs.Shape.{is_below, is_due_in, is_due_shifted, shape_of, is_plain, is_shifted, is_turned, neighbour, turn};
+ghost use Rattle.cs_zone.specs.Zone.{IsZone};
+ghost use Rattle.cs_zone.specs.Shape.{is_due_in, is_due_shifted, shape_of, is_plain, is_shifted, neighbour, turn};
 
 use crate::starts::jumps_on;
-use crate::wall::{kind_on, march_day, minute_on, year_of};
+use crate::wall::{kind_on, march_day, year_of};
 use crate::zone::Zone;
 use cs_civil::DayKind;
 use cs_schedule::{MinuteSet, Schedule};
 
-fn is_plain(zone: Zone, kind: DayKind) -> bool
-    ensures { result ≡ is_plain zone kind }
+/// Whether the wall shows the plan's clock all day, or another one all day, and no jump is near.
+fn clocks(zone: Zone, kind: DayKind) -> (bool, bool)
+    ensures plain { result.0 ≡ is_plain zone kind }
+    ensures shifted { result.1 ≡ is_shifted zone kind }
 {
-    let year = year_of(zone, kind);
-    let start = 1_440 * march_day(kind);
-    start + 1_440 <= year.leaving || year.returning + u32::from(zone.saving()) <= start
-}
-
-fn is_shifted(zone: Zone, kind: DayKind) -> bool
-    ensures { result ≡ is_shifted zone kind }
-{
-    let year = year_of(zone, kind);
-    let start = 1_440 * march_day(kind);
-    year.leaving + u32::from(zone.saving()) <= start && start + 1_440 <= year.returning
-}
-
-/// Whether the wall shows the day before or after the plan's, on a day on which it is shifted.
-fn is_turned(zone: Zone, minute: u16) -> bool
-    requires { minute < 1440 }
-    ensures { result ≡ is_turned zone minute }
-{
-    let saving = u16::from(zone.saving());
-    if zone.is_ahead() {
-        minute + saving >= 1_440
-    } else {
-        minute < saving
+    let day = march_day(kind);
+    let leaves = u32::from(zone.leaves().earliest());
+    let returns = u32::from(zone.returns().earliest());
+    if day < leaves || day > returns + 8 {
+        return (true, false);
     }
+    if day > leaves + 7 && day + 1 < returns {
+        return (false, true);
+    }
+    let year = year_of(zone, kind);
+    let saving = u32::from(zone.saving());
+    let start = 1_440 * day;
+    (
+        start + 1_440 <= year.leaving || year.returning + saving <= start,
+        year.leaving + saving <= start && start + 1_440 <= year.returning,
+    )
 }
 
 fn turn(zone: Zone) -> u16
     ensures value { result ≡ turn zone }
     ensures bound { result ≤ 1440 }
+    ensures zone { IsZone zone }
 {
     let saving = u16::from(zone.saving());
     if zone.is_ahead() {
@@ -53,74 +48,48 @@ fn turn(zone: Zone) -> u16
     }
 }
 
-/// Goes on collecting the minutes that pass a test, in order: adds this one if it does.
-#[tactic(auto, using(crate::proofs::Collecting::more, crate::proofs::Collecting::same))]
-fn collect(minutes: &mut MinuteSet, minute: u16, is_due: bool)
-    requires { minute < 1440 }
-    ensures { (test : ℕ → Bool) → test minute ≡ is_due
-        → minutes.old ≡ minutes_where (is_below test minute)
-        → minutes.new ≡ minutes_where (is_below test (minute + 1)) }
+/// The minutes of a day on which the wall is shifted. The fields list the day that it shows at the
+/// same time if `same` says so, and the other one if `other` does.
+fn shifted(zone: Zone, schedule: &Schedule, same: bool, other: bool) -> MinuteSet
+    ensures value { result ≡ minutes_where (is_due_shifted zone schedule.now same other) }
+    ensures zone { IsZone zone }
 {
-    if is_due {
-        minutes.insert(minute);
-    }
+    let turn = turn(zone);
+    let (below, above) = if zone.is_ahead() {
+        (other, same)
+    } else {
+        (same, other)
+    };
+    let from = if below { 0 } else { turn };
+    let to = if above { 1_440 } else { turn };
+    schedule.times_shown(turn, from, to)
 }
 
-/// The minutes of a day on which the wall is shifted, if the fields list `times` and perhaps the
-/// day that it shows at the same time or the other one.
-fn shifted(zone: Zone, times: &MinuteSet, same: bool, other: bool) -> MinuteSet
-    ensures { (s : Times) → times.now ≡ minutes_where (is_time_due s)
-        → result ≡ minutes_where (is_due_shifted zone s same other) }
+/// Adds those of these minutes that are due.
+fn search(zone: Zone, schedule: &Schedule, kind: DayKind, near: &MinuteSet, minutes: &mut MinuteSet)
+    requires { (test : ℕ → Bool) × (near.now ≡ minutes_where test) }
+    ensures { (test : ℕ → Bool) → minutes.old ≡ minutes_where test
+        → minutes.new
+        ≡ minutes_where (λ m. test m || (has near.now m && is_due zone schedule.now kind m)) }
 {
-    let mut minutes = MinuteSet::new();
-    let back = 1_440 - turn(zone);
-    for time in times.iter() {
-        let minute = time.saturating_add(back) % 1_440;
-        let is_day = if is_turned(zone, minute) { other } else { same };
-        if is_day {
+    for minute in near.iter() {
+        if !minutes.has(minute) && zone.starts(schedule, kind, minute) > 0 {
             minutes.insert(minute);
         }
     }
-    minutes
 }
 
-/// Whether a minute is due, if the fields list `times`, and `after_jump` is the first minute after
-/// the jump forward. It works out what the wall shows only in that minute, and where `times` has a
-/// time that the wall may show: the plan's, or one that is a saving later or earlier.
-fn is_due_near(
-    zone: Zone,
-    schedule: &Schedule,
-    times: &MinuteSet,
-    kind: DayKind,
-    after_jump: u32,
-    minute: u16,
-) -> bool
-    requires { minute < 1440 }
-    ensures { times.now ≡ minutes_where (is_time_due schedule.now) → after_jump ≡ forward zone kind
-        → result ≡ is_due zone schedule.now kind minute }
-{
-    let saving = u16::from(zone.saving());
-    if minute_on(kind, minute) == after_jump
-        || times.has(minute)
-        || times.has((minute + saving) % 1_440)
-        || times.has((minute + 1_440 - saving) % 1_440)
-    {
-        return zone.starts(schedule, kind, minute) > 0;
-    }
-    false
-}
-
-/// The minutes of a day on which a jump is near.
+/// The minutes of a day on which a jump is near. Only the first minute after the jump forward is
+/// looked at, and those in which the plan's clock or the shifted one shows a time that is listed.
 fn searched(zone: Zone, schedule: &Schedule, kind: DayKind) -> MinuteSet
     ensures { result ≡ minutes_where (is_due zone schedule.now kind) }
 {
-    let times = schedule.times();
     let (forward, _) = jumps_on(zone, kind);
+    let mut shown = shifted(zone, schedule, true, true);
+    shown.insert((forward % 1_440) as u16);
     let mut minutes = MinuteSet::new();
-    for minute in 0..1_440 {
-        let is_due = is_due_near(zone, schedule, &times, kind, forward, minute);
-        collect(&mut minutes, minute, is_due);
-    }
+    search(zone, schedule, kind, &schedule.times(), &mut minutes);
+    search(zone, schedule, kind, &shown, &mut minutes);
     minutes
 }
 
@@ -160,10 +129,11 @@ impl Zone {
         ensures { result ≡ shape_of self schedule.now kind }
     {
         let is_day = schedule.is_day_due(kind);
-        if is_plain(self, kind) {
+        let (is_plain, is_shifted) = clocks(self, kind);
+        if is_plain {
             return if is_day { Shape::Plain } else { Shape::Never };
         }
-        if !is_shifted(self, kind) {
+        if !is_shifted {
             return Shape::Jump;
         }
         match (is_day, schedule.is_day_due(neighbour(self, kind))) {
@@ -182,9 +152,9 @@ impl Zone {
         match shape {
             Shape::Never | Shape::Jump => MinuteSet::new(),
             Shape::Plain => schedule.times(),
-            Shape::Same => shifted(self, &schedule.times(), true, false),
-            Shape::Other => shifted(self, &schedule.times(), false, true),
-            Shape::Both => shifted(self, &schedule.times(), true, true),
+            Shape::Same => shifted(self, schedule, true, false),
+            Shape::Other => shifted(self, schedule, false, true),
+            Shape::Both => shifted(self, schedule, true, true),
         }
     }
 

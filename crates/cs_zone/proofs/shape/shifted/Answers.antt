@@ -1,61 +1,25 @@
-use Rattle.std.proofs.Common.{◌≡◌, ◌≤◌, ◌<◌, ◌+◌, ◌-◌, ◌%◌, ◌||◌, ℕ, Bool, cond, nat_eq, List, [], ◌∷◌, ◌++◌, sym, ap, ◌∙◌, append_assoc, append-nil, arith}
-use Rattle.cs_schedule.specs.Minutes.{minutes_where}
-use Rattle.cs_schedule.specs.Numbers.{has}
-use Rattle.cs_schedule.specs.Times.{is_time_due}
-use Rattle.cs_zone.specs.Shape.{turn}
-use Rattle.cs_zone.proofs.Turning.{adds, all_taken, below_day, is_on_day, leaves, none_taken}
+use Rattle.std.proofs.Common.{◌≡◌, ◌∙◌, Bool, cond, sym, ap}
+use Rattle.cs_zone.proofs.Turning.{in_turn}
 use Rattle.cs_zone.proofs.shape.shifted.Goals as goal
-use Rattle.cs_zone.proofs.shape.shifted.Goals.{then-is_turned, else-is_turned}
+use Rattle.cs_zone.proofs.shape.shifted.Goals.{then-is_ahead, else-is_ahead, then-below, else-below, then-above, else-above}
 
-pub loop-time-init : goal.loop-time-init
-loop-time-init c = (
-  c.into_iter-time-iterator.ensures.into_iter_gives ∙ c.iter-time-items.ensures,
-  λ s is. c.new-minutes.ensures ∙ none_taken c.args.zone c.args.same c.args.other,
-)
-
-pub loop-time-preserved : goal.loop-time-preserved
-loop-time-preserved c =
+pub returns-clause-value : goal.returns-clause-value
+returns-clause-value c =
     let z = c.args.zone in
-    let taken = c.loop-time.yielded in
-    let m = c.in-Some.time in
-    let at = c.saturating_add-minute.result % 1440 in
-    let listed : taken ++ (m ∷ c.next.new.self) ≡ c.args.times.now = ap (λ (xs : List ℕ). taken ++ xs) (sym c.in-Some.ensures.steps) ∙ c.loop-time.invariant.0 in
-    let day : is_on_day z c.args.same c.args.other at ≡ c.if-is_turned.is_day = elim c.if-is_turned.branch [
-      | then-is_turned w ↦ ap (λ (b : Bool). cond b c.args.other c.args.same) (sym w.if-is_turned.ensures) ∙ sym w.is_day-is
-      | else-is_turned w ↦ ap (λ (b : Bool). cond b c.args.other c.args.same) (sym w.if-is_turned.ensures) ∙ sym w.is_day-is
-    ] in (
-      append_assoc taken (m ∷ []) c.next.new.self ∙ listed,
-      λ s is.
-          let lt : m < 1440 = below_day (is_time_due s) taken c.next.new.self m (listed ∙ is) in
-          let le : turn z ≤ 1440 = omega (arith, c.turn-back.ensures.value, c.turn-back.ensures.bound) in
-          let e : at ≡ (m + (1440 - turn z)) % 1440 = omega (arith, c.turn-back.ensures.value, c.saturating_add-minute.ensures) in
-          c.loop-time.invariant.1 s is ∙ leaves z c.args.same c.args.other taken m at le lt e (day ∙ c.if-is_day.false),
-    )
-
-pub loop-time-preserved-then-is_day : goal.loop-time-preserved-then-is_day
-loop-time-preserved-then-is_day c =
-    let z = c.args.zone in
-    let taken = c.loop-time.yielded in
-    let m = c.in-Some.time in
-    let at = c.saturating_add-minute.result % 1440 in
-    let listed : taken ++ (m ∷ c.next.new.self) ≡ c.args.times.now = ap (λ (xs : List ℕ). taken ++ xs) (sym c.in-Some.ensures.steps) ∙ c.loop-time.invariant.0 in
-    let day : is_on_day z c.args.same c.args.other at ≡ c.if-is_turned.is_day = elim c.if-is_turned.branch [
-      | then-is_turned w ↦ ap (λ (b : Bool). cond b c.args.other c.args.same) (sym w.if-is_turned.ensures) ∙ sym w.is_day-is
-      | else-is_turned w ↦ ap (λ (b : Bool). cond b c.args.other c.args.same) (sym w.if-is_turned.ensures) ∙ sym w.is_day-is
-    ] in (
-      append_assoc taken (m ∷ []) c.next.new.self ∙ listed,
-      λ s is.
-          let lt : m < 1440 = below_day (is_time_due s) taken c.next.new.self m (listed ∙ is) in
-          let le : turn z ≤ 1440 = omega (arith, c.turn-back.ensures.value, c.turn-back.ensures.bound) in
-          let e : at ≡ (m + (1440 - turn z)) % 1440 = omega (arith, c.turn-back.ensures.value, c.saturating_add-minute.ensures) in
-          c.insert.ensures
-          ∙ (ap (λ (xs : List ℕ). minutes_where (λ k. nat_eq k at || has xs k)) (c.loop-time.invariant.1 s is)
-          ∙ adds z c.args.same c.args.other taken m at le lt e (day ∙ c.if-is_day.true)),
-    )
-
-pub returns : goal.returns
-returns c s is =
-    let z = c.args.zone in
-    let taken = c.loop-time.yielded in
-    let all : taken ≡ c.args.times.now = sym (append-nil taken) ∙ (ap (λ (xs : List ℕ). taken ++ xs) (sym c.in-None.ensures.steps.0) ∙ c.loop-time.invariant.0) in
-    c.loop-time.invariant.1 s is ∙ all_taken z s c.args.same c.args.other taken (all ∙ is)
+    let below : c.if-is_ahead.below.0 ≡ cond z.ahead c.args.other c.args.same = elim c.if-is_ahead.branch [
+      | then-is_ahead w ↦ rw (sym c.is_ahead.ensures ∙ w.if-is_ahead.true) (ap (λ (p : Bool × Bool). p.0) w.below-is)
+      | else-is_ahead w ↦ rw (sym c.is_ahead.ensures ∙ w.if-is_ahead.false) (ap (λ (p : Bool × Bool). p.0) w.below-is)
+    ] in
+    let above : c.if-is_ahead.below.1 ≡ cond z.ahead c.args.same c.args.other = elim c.if-is_ahead.branch [
+      | then-is_ahead w ↦ rw (sym c.is_ahead.ensures ∙ w.if-is_ahead.true) (ap (λ (p : Bool × Bool). p.1) w.below-is)
+      | else-is_ahead w ↦ rw (sym c.is_ahead.ensures ∙ w.if-is_ahead.false) (ap (λ (p : Bool × Bool). p.1) w.below-is)
+    ] in
+    let from : c.if-below.from ≡ cond c.if-is_ahead.below.0 0 c.turn-turn.result = elim c.if-below.branch [
+      | then-below w ↦ rw w.if-below.true w.from-is
+      | else-below w ↦ rw w.if-below.false w.from-is
+    ] in
+    let to : c.if-above.to ≡ cond c.if-is_ahead.below.1 1440 c.turn-turn.result = elim c.if-above.branch [
+      | then-above w ↦ rw w.if-above.true w.to-is
+      | else-above w ↦ rw w.if-above.false w.to-is
+    ] in
+    c.times_shown.ensures ∙ in_turn z c.args.schedule.now c.args.same c.args.other c.if-is_ahead.below.0 c.if-is_ahead.below.1 c.turn-turn.result c.if-below.from c.if-above.to c.turn-turn.ensures.zone c.turn-turn.ensures.value below above from to

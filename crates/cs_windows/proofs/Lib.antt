@@ -1,4 +1,5 @@
 pub mod Exact
+mod Linked
 pub mod Members
 pub mod Minutes
 pub mod Rising

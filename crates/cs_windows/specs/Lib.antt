@@ -1,7 +1,7 @@
 pub mod Entries
+pub mod Links
 pub mod Occupied
 pub mod Reach
-pub mod Starter
 pub mod Tree
 pub mod Window
 pub mod Windows

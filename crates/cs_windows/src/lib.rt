@@ -2,9 +2,9 @@
 #![tactic(auto)]
 
 mod job_windows;
+mod links;
 mod list;
 mod reach;
-mod starter;
 mod tree;
 mod window;
 

@@ -1,12 +1,13 @@
-ghost use Rattle.std.specs.Prelude.{◌≡◌, [], ◌∷◌, ◌≤◌, ◌++◌, ◌↔◌, IfNone, IfOk, IfSome, OnOk, Contains, filter, length, map};
+ghost use Rattle.std.specs.Prelude.{◌≡◌, ℕ, [], ◌∷◌, ◌+◌, ◌*◌, ◌<◌, ◌≤◌, ◌++◌, ◌↔◌, List, IfOk, OnOk, Contains, filter, length, map};
+ghost use Rattle.cs_civil.specs.Calendar.{Kind};
+ghost use Rattle.cs_windows.specs.Links.{AreBegun};
 ghost use Rattle.cs_windows.specs.Occupied.{job_of};
-ghost use Rattle.cs_windows.specs.Starter.{BeginAlike, BeginOn, begun_between, begun_near};
 ghost use Rattle.cs_windows.specs.Window.{IsRising, reaches};
-ghost use Rattle.cs_windows.specs.Windows.{IsWindowOn, windows_from, windows_on};
+ghost use Rattle.cs_windows.specs.Windows.{IsWindowOn, Job, windows_from, windows_on};
 
 use crate::job_windows::Occupied;
-use crate::starter::{Near, Starter};
-use crate::window::{Window, may_reach};
+use crate::links::{Link, MINUTES, add_linked, link_block};
+use crate::window::{Window, first_minute, may_reach};
 use cs_civil::{DayKind, MINUTES_OF_DAY};
 use cs_schedule::MINUTES_OF_BLOCK;
 use std::alloc::{AllocError, Global};
@@ -16,78 +17,59 @@ pub const MOST_OCCUPIED: usize = 65_536;
 
 const BLOCKS_OF_DAY: u16 = MINUTES_OF_DAY / MINUTES_OF_BLOCK;
 
-fn starter_on(job: u16, own: &Occupied<'_>, day: DayKind, day_back: u8) -> Option<Starter>
-    ensures kept { IfSome result (λ starter.
-        BeginOn (starter ∷ []) day day_back job (job_of own.now ∷ [])) }
-    ensures left_out { IfNone result (BeginOn [] day day_back job (job_of own.now ∷ [])) }
+/// Returns a block of minutes before which no window of that reach begins that reaches the day.
+fn first_block(day_back: u8, reach: u16) -> u16
+    ensures { (minute : ℕ) → minute < MINUTES_OF_BLOCK * result
+        → minute + reach ≤ MINUTES_OF_DAY * day_back }
+{
+    let begins = (first_minute(day_back) + 1).saturating_sub(u32::from(reach));
+    (begins / u32::from(MINUTES_OF_BLOCK)) as u16
+}
+
+/// Links the windows of one job, of which each comes before those of later jobs.
+fn link_starts(
+    links: &mut Vec<Link>,
+    firsts: &mut [usize; MINUTES],
+    job: u16,
+    own: &Occupied<'_>,
+    day: DayKind,
+    day_back: u8,
+) -> Result<(), AllocError>
+    ensures { OnOk result ((jobs : List (Job Kind))
+        → AreBegun links.old.items firsts.old day day_back (job + 1) jobs
+        → AreBegun links.new.items firsts.new day day_back job (job_of own.now ∷ jobs)) }
 {
     let reach = own.reach();
     if !may_reach(day_back, reach) {
-        return None;
+        return Ok(());
     }
-    Some(Starter {
-        job,
-        day_back,
-        reach,
-        starts: own.starts_on(day),
-    })
+    let starts = own.starts_on(day);
+    for block in first_block(day_back, reach)..BLOCKS_OF_DAY {
+        let first = Window {
+            job,
+            day_back,
+            from: MINUTES_OF_BLOCK * block,
+            reach,
+        };
+        link_block(links, firsts, first, starts.bits_of_block(block))?;
+    }
+    Ok(())
 }
 
-fn starters_on(
-    alloc: Global,
+fn link_jobs(
+    links: &mut Vec<Link>,
+    firsts: &mut [usize; MINUTES],
     occupied: &[Occupied<'_>],
     day: DayKind,
     day_back: u8,
-) -> Result<Vec<Starter>, AllocError>
-    requires { length occupied.now ≤ MOST_OCCUPIED }
-    ensures { IfOk result (λ starters.
-        BeginOn starters.items day day_back 0 (map job_of occupied.now)) }
-{
-    let mut starters = Vec::new(alloc);
-    for (job, own) in occupied.iter().enumerate() {
-        if let Some(starter) = starter_on(job as u16, own, day, day_back) {
-            starters.push(starter)?;
-        }
-    }
-    Ok(starters)
-}
-
-/// Keeps only the jobs whose windows may begin in a block of minutes, with their starts there.
-fn keep_near(near: &mut Vec<Near>, starters: &[Starter], block: u16) -> Result<(), AllocError>
-    ensures { OnOk result (BeginAlike block near.new.items starters.now) }
-{
-    near.clear();
-    for starter in starters {
-        if let Some(own) = starter.near(block) {
-            near.push(own)?;
-        }
-    }
-    Ok(())
-}
-
-fn add_begun(windows: &mut Vec<Window>, near: &[Near], minute: u16) -> Result<(), AllocError>
-    ensures { OnOk result (windows.new.items ≡ windows.old.items ++ begun_near minute near.now) }
-{
-    for own in near {
-        if let Some(window) = own.window_at(minute) {
-            windows.push(window)?;
-        }
-    }
-    Ok(())
-}
-
-fn add_minutes(
-    windows: &mut Vec<Window>,
-    near: &[Near],
-    from: u16,
-    to: u16,
 ) -> Result<(), AllocError>
-    requires { from ≤ to }
+    requires few { length occupied.now ≤ MOST_OCCUPIED }
+    requires none { AreBegun links.old.items firsts.old day day_back (length occupied.now) [] }
     ensures { OnOk result
-        (windows.new.items ≡ windows.old.items ++ begun_between near.now from to) }
+        (AreBegun links.new.items firsts.new day day_back 0 (map job_of occupied.now)) }
 {
-    for minute in from..to {
-        add_begun(windows, near, minute)?;
+    for job in (0..occupied.len()).rev() {
+        link_starts(links, firsts, job as u16, &occupied[job], day, day_back)?;
     }
     Ok(())
 }
@@ -104,12 +86,11 @@ fn add_day(
         ≡ windows.old.items
         ++ filter reaches (windows_from (map job_of occupied.now) day day_back)) }
 {
-    let starters = starters_on(alloc, occupied, day, day_back)?;
-    let mut near = Vec::new(alloc);
-    for block in 0..BLOCKS_OF_DAY {
-        let first = MINUTES_OF_BLOCK * block;
-        keep_near(&mut near, &starters, block)?;
-        add_minutes(windows, &near, first, first + MINUTES_OF_BLOCK)?;
+    let mut links = Vec::new(alloc);
+    let mut firsts = [0; MINUTES];
+    link_jobs(&mut links, &mut firsts, occupied, day, day_back)?;
+    for first in &firsts {
+        add_linked(windows, &links, *first)?;
     }
     Ok(())
 }

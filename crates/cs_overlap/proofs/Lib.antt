@@ -1,9 +1,8 @@
+pub mod FilterLemmas
 pub mod FoundLemmas
 pub mod HolderLemmas
-pub mod KeptWindows
 pub mod MostWeights
 pub mod PlanRoles
-pub mod QuietLemmas
 pub mod RoleLemmas
 pub mod RolesSay
 pub mod SplitLemmas

@@ -1,12 +1,14 @@
 -- The load of windows is at most what each of them may weigh, added up.
-use Rattle.std.proofs.Common.{ℕ, zero, suc, ◌+◌, ◌<◌, ◌≤◌, ◌≡◌, Bool, true, false, not, ◌&&◌, List, [], ◌∷◌, Option, None, Some, if◌then◌else◌, refl, ap, ⊎_elim, arith}
+use Rattle.std.proofs.Common.{ℕ, zero, suc, ◌+◌, ◌<◌, ◌≤◌, ◌≡◌, Bool, true, false, not, ◌&&◌, ◌||◌, List, [], ◌∷◌, Option, None, Some, if◌then◌else◌, refl, ap, ⊎_elim, arith}
 use Rattle.std.proofs.lemmas.Bool.{cases_lt, cases_eq, ne_eqb}
 use Rattle.cs_history.specs.Lists.{total, below}
 use Rattle.cs_history.specs.Plan.{takes, shares_in, is_group}
 use Rattle.cs_history.proofs.Lists.{all_any, total_push, total_le, total_sum, total_zero}
 use Rattle.cs_windows.specs.declared.window.Window.{Window}
 use Rattle.cs_overlap.specs.declared.role.Role.{Role}
-use Rattle.cs_overlap.specs.Roles.{role_at, alone_weight, shared_weight, group_weight, most_weight, load_by}
+use Rattle.cs_overlap.specs.declared.table.Amount.TheVariants.{OwnWeight}
+use Rattle.cs_overlap.specs.Roles.{role_at, free_weight, alone_weight, shared_weight, group_weight}
+use Rattle.cs_overlap.specs.Sums.{amount_in}
 
 lone_sum : (f : ℕ → ℕ) (k c : ℕ) → ((j : ℕ) → (j ≡ k → ⊥) → f j ≡ 0) → f k ≤ c → (m : ℕ) → (total f (below m) ≤ c) × (m ≤ k → total f (below m) ≡ 0)
 lone_sum f k c other at zero = (omega arith, λ _. refl)
@@ -32,11 +34,11 @@ either true true k = omega arith
 either true false k = omega arith
 either false s k = omega arith
 
-parts : (cron t : Bool) (k : ℕ) → (if cron && not t then k else 0) + (if t then k else 0) + (if not cron then k else 0) ≤ (if not cron && t then k + k else k)
-parts true true k = omega arith
-parts true false k = omega arith
-parts false true k = omega arith
-parts false false k = omega arith
+own_parts : (cron t : Bool) (k : ℕ) → (if cron && not t then k else 0) + (if t then k else 0) ≤ (if cron || t then k else 0)
+own_parts true true k = omega arith
+own_parts true false k = omega arith
+own_parts false true k = omega arith
+own_parts false false k = omega arith
 
 module _ (roles : List Role) where
   of_window : (w : Window) (n : ℕ) → total (λ g. alone_weight roles g w + shared_weight roles g w) (below n) ≤ (if takes (role_at roles w.job).mode then (role_at roles w.job).weight else 0)
@@ -59,8 +61,8 @@ module _ (roles : List Role) where
             (all_any (λ g. group_weight roles (w ∷ ws) g ≤ one g + group_weight roles ws g) (below n) (λ g. omega arith)),
       )
 
-  pub load_most : (n : ℕ) (ws : List Window) → load_by roles n ws ≤ total (most_weight roles) ws
-  load_most n [] = omega (arith, total_zero (group_weight roles []) (below n) (all_any (λ g. group_weight roles [] g ≡ 0) (below n) (λ g. refl)))
-  load_most n (w ∷ ws) =
+  pub own_most : (n : ℕ) (ws : List Window) → total (free_weight roles) ws + total (group_weight roles ws) (below n) ≤ total (amount_in roles OwnWeight) ws
+  own_most n [] = omega (arith, total_zero (group_weight roles []) (below n) (all_any (λ g. group_weight roles [] g ≡ 0) (below n) (λ g. refl)))
+  own_most n (w ∷ ws) =
       let r = role_at roles w.job in
-      omega (arith, with_window w ws n, of_window w n, parts r.is_cron (takes r.mode) r.weight, load_most n ws)
+      omega (arith, with_window w ws n, of_window w n, own_parts r.is_cron (takes r.mode) r.weight, own_most n ws)

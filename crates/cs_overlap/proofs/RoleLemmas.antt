@@ -5,7 +5,6 @@ use Rattle.cs_windows.specs.declared.window.Window.{Window}
 use Rattle.cs_theorem.specs.Accepted.{AreApart, AreFree, AreWithin, clash, blocks, run_in}
 use Rattle.cs_overlap.specs.declared.role.Role.{Role}
 use Rattle.cs_overlap.specs.Roles.{role_at, role_of, AreRoles, share_group, roles_clash, load_by}
-use Rattle.cs_overlap.specs.Quietness.{is_open_at, bars, are_apart, are_free, weight_of, met, EachWithMet, PassesWith, IsLightWith, MeetApart, MeetFree, MeetLight, apart_by, role_bars, free_by, MeetApartBy, MeetFreeBy, MeetLightBy}
 use Rattle.cs_overlap.specs.Sums.{AreApartBy, AreFreeBy, AreWithinBy}
 use Rattle.std.specs.List.{AllByRecursion}
 use Rattle.cs_overlap.specs.Found.{collision_by, overload_by, role_blocks, blocked_by}
@@ -26,40 +25,10 @@ share_is p i j = share_step p (p.group i) j
 clash_is : (p : Plan) (i j : ℕ) → roles_clash (role_of p i) (role_of p j) ≡ clash p i j
 clash_is p i j = ap (λ (b : Bool). (exclusive_group p (p.group i) && b) && ((is_cron p i || is_cron p j) && not (takes_lock p i && takes_lock p j))) (share_is p i j)
 
-bars_is : (p : Plan) (roles : List Role) (v w : Window) → role_at roles v.job ≡ role_of p v.job → role_at roles w.job ≡ role_of p w.job → role_bars roles v w ≡ bars p v w
-bars_is p roles v w e f =
-    ap (λ (r : Role). (is_skip r.mode && is_open_at v w) && (takes (role_at roles w.job).mode && share_group r (role_at roles w.job))) e
-    ∙ (ap (λ (r : Role). (is_skip (p.mode v.job) && is_open_at v w) && (takes r.mode && share_group (role_of p v.job) r)) f
-    ∙ ap (λ (b : Bool). (is_skip (p.mode v.job) && is_open_at v w) && (takes_lock p w.job && b)) (share_is p v.job w.job))
-
 clash_by : (p : Plan) (roles : List Role) (v w : Window) → role_at roles v.job ≡ role_of p v.job → role_at roles w.job ≡ role_of p w.job → roles_clash (role_at roles v.job) (role_at roles w.job) ≡ clash p v.job w.job
 clash_by p roles v w e f = ap (λ (r : Role). roles_clash r (role_at roles w.job)) e ∙ (ap (λ (r : Role). roles_clash (role_of p v.job) r) f ∙ clash_is p v.job w.job)
 
-apart_is : (p : Plan) (roles : List Role) (v w : Window) → role_at roles v.job ≡ role_of p v.job → role_at roles w.job ≡ role_of p w.job → apart_by roles v w ≡ are_apart p v w
-apart_is p roles v w e f = ap (λ (b : Bool). not b) (clash_by p roles v w e f)
-
-free_is : (p : Plan) (roles : List Role) (v w : Window) → role_at roles v.job ≡ role_of p v.job → role_at roles w.job ≡ role_of p w.job → free_by roles v w ≡ are_free p v w
-free_is p roles v w e f =
-    ap (λ (b : Bool). not b && not (role_bars roles w v)) (bars_is p roles v w e f)
-    ∙ ap (λ (b : Bool). not (bars p v w) && not b) (bars_is p roles w v f e)
-
-each_map : (P Q : List Window → Window → Type 0) → ((vs : List Window) (w : Window) → P vs w → Q vs w) → (before ws : List Window) → EachWithMet P before ws → EachWithMet Q before ws
-each_map P Q k before [] e = tt
-each_map P Q k before (w ∷ ws) e = (k (met w before) w e.0, each_map P Q k (before ++ w ∷ []) ws e.1)
-
-passes_map : (s t : Window → Window → Bool) → ((v w : Window) → s v w ≡ t v w) → (ws : List Window) → EachWithMet (PassesWith s) [] ws → EachWithMet (PassesWith t) [] ws
-passes_map s t same ws = each_map (PassesWith s) (PassesWith t) (λ vs w all. all_map (λ v. s v w ≡ true) (λ v. t v w ≡ true) vs (λ v e. sym (same v w) ∙ e) all) [] ws
-
 module _ (p : Plan) (roles : List Role) (are : AreRoles p roles) where
-  pub meet_apart : (ws : List Window) → MeetApartBy roles ws → MeetApart p ws
-  meet_apart = passes_map (apart_by roles) (are_apart p) (λ v w. apart_is p roles v w (are v.job) (are w.job))
-
-  pub meet_free : (ws : List Window) → MeetFreeBy roles ws → MeetFree p ws
-  meet_free = passes_map (free_by roles) (are_free p) (λ v w. free_is p roles v w (are v.job) (are w.job))
-
-  pub meet_light : (ws : List Window) → MeetLightBy roles p.groups p.capacity ws → MeetLight p ws
-  meet_light ws = each_map (IsLightWith (load_by roles p.groups) p.capacity) (IsLightWith (weight_of p) p.capacity) (λ vs w light. omega (arith, load_is p roles (vs ++ w ∷ []) are, light)) [] ws
-
   -- ---- the finders
 
   pub collision_is : (ws : List Window) → collision_by roles p.groups ws ≡ collision_in p ws

@@ -4,22 +4,9 @@ use Rattle.cs_windows.specs.declared.window.Window.{Window}
 use Rattle.cs_theorem.specs.Accepted.{AreApart, AreWithin, AreFree}
 use Rattle.cs_theorem.specs.Faults.{collision_in, overload_in, blocked_in}
 use Rattle.cs_overlap.specs.Roles.{PlanRoles, IsOf}
-use Rattle.cs_overlap.specs.Quietness.{MeetApartBy, MeetFreeBy, MeetLightBy}
 use Rattle.cs_overlap.specs.Sums.{AreApartBy, AreFreeBy, AreWithinBy}
 use Rattle.cs_overlap.specs.Found.{collision_by, overload_by, blocked_by}
-use Rattle.cs_overlap.proofs.RoleLemmas.{meet_apart, meet_free, meet_light, apart_from_sums, free_from_sums, within_from_sums, collision_is, overload_is, blocked_is}
-use Rattle.cs_overlap.proofs.QuietLemmas.{apart, within, free}
-
-pub apart_rule : (p : Plan) (r : PlanRoles) (ws : List Window) → IsOf p r → MeetApartBy r.jobs ws → AreApart p ws
-apart_rule p r ws is meet = apart p ws (meet_apart p r.jobs is.jobs ws meet)
-
-pub free_rule : (p : Plan) (r : PlanRoles) (ws : List Window) → IsOf p r → MeetFreeBy r.jobs ws → AreFree p ws
-free_rule p r ws is meet = free p ws (meet_free p r.jobs is.jobs ws meet)
-
-pub within_rule : (p : Plan) (n : ℕ) (r : PlanRoles) (ws : List Window) → IsOf p r → MeetLightBy r.jobs r.groups r.capacity ws → AreWithin p n ws
-within_rule p n r ws is meet =
-    let own : MeetLightBy r.jobs p.groups p.capacity ws = subst (λ (k : ℕ). MeetLightBy r.jobs k p.capacity ws) (sym is.groups) (subst (λ (k : ℕ). MeetLightBy r.jobs r.groups k ws) (sym is.capacity) meet) in
-    within p n ws (meet_light p r.jobs is.jobs ws own)
+use Rattle.cs_overlap.proofs.RoleLemmas.{apart_from_sums, free_from_sums, within_from_sums, collision_is, overload_is, blocked_is}
 
 pub apart_sums : (p : Plan) (r : PlanRoles) (ws : List Window) → IsOf p r → AreApartBy 1440 r.jobs ws → AreApart p ws
 apart_sums p r ws is by = apart_from_sums p r.jobs is.jobs ws by

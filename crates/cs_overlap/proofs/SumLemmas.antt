@@ -6,7 +6,7 @@ use Rattle.cs_history.specs.declared.mode.Mode.{Mode}
 use Rattle.cs_history.specs.declared.mode.Mode.TheVariants.{Plain, Skip, Try, Wait, Shared}
 use Rattle.cs_history.specs.Lists.{total, greatest, EachPair}
 use Rattle.cs_history.specs.Plan.{takes, shares_in, is_group, is_skip}
-use Rattle.cs_history.proofs.Lists.{all_map, all_any, all-filter}
+use Rattle.cs_history.proofs.Lists.{all_map, all_any, all-filter, pairs-filter}
 use Rattle.cs_windows.specs.declared.window.Window.{Window}
 use Rattle.cs_windows.specs.Window.{touches}
 use Rattle.cs_windows.proofs.Members.{Has, has_filter, filter_has}
@@ -14,11 +14,12 @@ use Rattle.cs_theorem.specs.Windows.{same_window, holders}
 use Rattle.cs_theorem.proofs.Elements.{all_has, pair_has}
 use Rattle.cs_theorem.proofs.Says.{all_from_has}
 use Rattle.cs_overlap.specs.declared.role.Role.{Role}
-use Rattle.cs_overlap.specs.declared.table.Amount.TheVariants.{FreeWeight, CatchWeight, AloneWeight, SharedWeight, Run, PlainRun, CronRun, LockRun}
+use Rattle.cs_overlap.specs.declared.table.Amount.TheVariants.{FreeWeight, CatchWeight, AloneWeight, SharedWeight, OwnWeight, Run, PlainRun, CronRun, LockRun}
 use Rattle.cs_overlap.specs.Roles.{role_at, share_group, roles_clash, alone_weight, shared_weight, catch_weight, group_weight}
 use Rattle.cs_overlap.specs.Found.{role_blocks}
-use Rattle.cs_overlap.specs.Sums.{amount_in, is_of, AreGrouped, AreApartBy, AreFreeBy, has_group_or_catches, IsSum, IsGreatest, IsGreaterAdded, IsLone, IsLoad, IsAdded}
-use Rattle.cs_overlap.proofs.QuietLemmas.{same_itself, not_true, filter_within}
+use Rattle.cs_overlap.specs.Sums.{amount_in, is_of, AreGrouped, AreApartBy, AreFreeBy, AreWithinBy, has_group_or_catches, IsSum, IsGreatest, IsGreaterAdded, IsLone, Locks, IsCaught, IsLoad, IsAdded}
+use Rattle.cs_overlap.proofs.MostWeights.{own_most}
+use Rattle.cs_overlap.proofs.FilterLemmas.{same_itself, not_true, filter_within}
 use Rattle.cs_overlap.proofs.Weights.{total_below}
 
 -- ---- lists
@@ -222,8 +223,16 @@ module _ (roles : List Role) where
   pub apart_none : (end : ℕ) (ws : List Window) → AllByRecursion (λ w. (role_at roles w.job).is_exclusive ≡ false) ws → AreApartBy end roles ws
   apart_none end ws all m lt = apart_not_exclusive (holders m ws) (all-filter (λ w. (role_at roles w.job).is_exclusive ≡ false) (λ w. touches w m (m + 1)) ws all)
 
-  pub apart_lockers : (end : ℕ) (ws : List Window) → AllByRecursion (λ w. takes (role_at roles w.job).mode ≡ true) ws → AreApartBy end roles ws
-  apart_lockers end ws all m lt = pairs_of (λ w. takes (role_at roles w.job).mode ≡ true) Apart (holders m ws) apart_takers (all-filter (λ w. takes (role_at roles w.job).mode ≡ true) (λ w. touches w m (m + 1)) ws all)
+  apart_locks : (v w : Window) → Locks roles v → Locks roles w → Apart v w
+  apart_locks v w p q = false_from_ne_true (roles_clash (role_at roles v.job) (role_at roles w.job)) (λ e.
+      let one = role_at roles v.job in
+      let other = role_at roles w.job in
+      let x = and_parts (one.is_exclusive && share_group one other) ((one.is_cron || other.is_cron) && not (takes one.mode && takes other.mode)) e in
+      let g = in_group one other one.group refl (and_parts one.is_exclusive (share_group one other) x.0).1 in
+      both_ways (roles_clash one other) (apart_takers v w (p (ap (λ (o : Option ℕ). is_some o) g.1)) (q (has_of g.0 other.group g.2))) e)
+
+  pub apart_lockers : (end : ℕ) (ws : List Window) → AllByRecursion (Locks roles) ws → AreApartBy end roles ws
+  apart_lockers end ws all m lt = pairs_of (Locks roles) Apart (holders m ws) apart_locks (all-filter (Locks roles) (λ w. touches w m (m + 1)) ws all)
 
   pub free_none : (end : ℕ) (ws : List Window) → AllByRecursion (λ w. is_skip (role_at roles w.job).mode ≡ false) ws → AreFreeBy end roles ws
   free_none end ws all m lt = all_map (λ v. is_skip (role_at roles v.job).mode ≡ false) (λ v. AllByRecursion (λ w. role_blocks roles m v w ≡ false) (holders m ws)) (holders m ws)
@@ -250,9 +259,16 @@ module _ (roles : List Role) where
   catch_among m ws = ap (greatest (amount_in roles CatchWeight)) (filter_swap (λ w. touches w m (m + 1)) (has_group_or_catches roles) ws)
       ∙ greatest_part (has_group_or_catches roles) (catch_weight roles) (amount_in roles CatchWeight) (λ w. catch_counts (role_at roles w.job).is_cron (is_some (role_at roles w.job).group) (role_at roles w.job).weight) (holders m ws)
 
-  pub free_from : (ws : List Window) (free catch load : List ℕ) → IsSum (amount_in roles FreeWeight) ws free → IsGreatest (amount_in roles CatchWeight) (filter (has_group_or_catches roles) ws) catch
-      → IsGreaterAdded catch catch free load → IsLoad roles ws 0 load
-  free_from ws free catch load f c added m lt = omega (arith, f m lt, c m lt, added m lt, catch_among m ws)
+  pub caught_from : (ws : List Window) (old catch new : List ℕ) → IsGreatest (amount_in roles CatchWeight) (filter (has_group_or_catches roles) ws) catch → IsGreaterAdded catch catch old new → IsCaught roles ws old new
+  caught_from ws old catch new c added m lt = omega (arith, c m lt, added m lt, catch_among m ws)
+
+  pub load_from : (ws : List Window) (free load : List ℕ) → IsSum (amount_in roles FreeWeight) ws free → IsCaught roles ws free load → IsLoad roles ws 0 load
+  load_from ws free load f caught m lt = omega (arith, f m lt, caught m lt)
+
+  pub within_own : (end n capacity : ℕ) (ws : List Window) (own all : List ℕ) → capacity < 65535 → end ≤ 1440 → IsSum (amount_in roles OwnWeight) ws own → IsCaught roles ws own all → ((m : ℕ) → m < end → slice_index all m ≤ capacity) → AreWithinBy end roles n capacity ws
+  within_own end n capacity ws own all small le sum caught fits m lt =
+      let day : m < 1440 = omega (arith, lt, le) in
+      omega (arith, sum m day, caught m day, fits m lt, own_most roles n (holders m ws), small)
 
   pub apart_groups : (end n : ℕ) (ws : List Window) → AreGrouped roles n → ((g : ℕ) → g < n → AreApartBy end roles (filter (is_of roles g) ws)) → AreApartBy end roles ws
   apart_groups end n ws grouped each m lt = apart_all n (holders m ws) grouped (λ g gl. subst (λ (xs : List Window). EachPair Apart xs) (swapped g m ws) (each g gl m lt))
@@ -267,3 +283,25 @@ module _ (roles : List Role) where
       let a = ap (greatest (amount_in roles AloneWeight)) (swapped g m ws) in
       let s = ap (total (amount_in roles SharedWeight)) (swapped g m ws) in
       omega (arith, total_below (group_weight roles held) g, here, a, s, was m lt, added m lt)
+
+  -- ---- all groups at once
+
+  pub apart_others : (end n : ℕ) (ws : List Window) → AreGrouped roles n → AreApartBy end roles (filter (has_group_or_catches roles) ws) → AreApartBy end roles ws
+  apart_others end n ws grouped all = apart_groups end n ws grouped (λ g gl m lt.
+      let others = filter (has_group_or_catches roles) ws in
+      subst (λ (xs : List Window). EachPair Apart (holders m xs)) (of_grouped g ws)
+      (subst (λ (xs : List Window). EachPair Apart xs) (sym (swapped g m others)) (pairs-filter Apart (is_of roles g) (holders m others) (all m lt))))
+
+  abbrev Free : ℕ → List Window → List Window → Type 0
+  Free m xs vs = AllByRecursion (λ v. AllByRecursion (λ w. role_blocks roles m v w ≡ false) xs) vs
+
+  part_free : (m g : ℕ) (xs : List Window) → Free m xs xs → Free m (filter (is_of roles g) xs) (filter (is_of roles g) xs)
+  part_free m g xs all = all_map (λ v. AllByRecursion (λ w. role_blocks roles m v w ≡ false) xs) (λ v. AllByRecursion (λ w. role_blocks roles m v w ≡ false) (filter (is_of roles g) xs)) (filter (is_of roles g) xs)
+      (λ v a. all-filter (λ w. role_blocks roles m v w ≡ false) (is_of roles g) xs a)
+      (all-filter (λ v. AllByRecursion (λ w. role_blocks roles m v w ≡ false) xs) (is_of roles g) xs all)
+
+  pub free_others : (end n : ℕ) (ws : List Window) → AreGrouped roles n → AreFreeBy end roles (filter (has_group_or_catches roles) ws) → AreFreeBy end roles ws
+  free_others end n ws grouped all = free_groups end n ws grouped (λ g gl m lt.
+      let others = filter (has_group_or_catches roles) ws in
+      subst (λ (xs : List Window). Free m (holders m xs) (holders m xs)) (of_grouped g ws)
+      (subst (λ (xs : List Window). Free m xs xs) (sym (swapped g m others)) (part_free m g (holders m others) (all m lt))))

@@ -9,7 +9,10 @@ use Rattle.cs_theorem.specs.Accepted.{run_in}
 use Rattle.cs_theorem.proofs.Calm.{load_jobs}
 use Rattle.cs_overlap.specs.declared.role.Role.{Role}
 use Rattle.cs_overlap.specs.Roles.{AreRoles, free_weight, alone_weight, shared_weight, catch_weight, group_weight, load_by}
-use Rattle.cs_overlap.specs.Quietness.{weight_of}
+
+-- what windows weigh together; their minutes don't matter
+abbrev pub weight_of : Plan → List Window → ℕ
+weight_of p ws = load p (map (run_in 2) ws)
 
 pub total_below : (f : ℕ → ℕ) (n : ℕ) → total f (below (n + 1)) ≡ total f (below n) + f n
 total_below f n = let e : n + 1 ≡ suc n = omega arith in ap (λ (k : ℕ). total f (below k)) e ∙ total_push f (below n) n

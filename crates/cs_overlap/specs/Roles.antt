@@ -45,12 +45,6 @@ shared_weight roles g w = if (takes (role_at roles w.job).mode
 abbrev pub catch_weight : List Role → Window → ℕ
 catch_weight roles w = if not (role_at roles w.job).is_cron then (role_at roles w.job).weight else 0
 
--- what a window weighs at most: catch-up that takes a lock may weigh in its group and as catch-up
-abbrev pub most_weight : List Role → Window → ℕ
-most_weight roles w = if not (role_at roles w.job).is_cron && takes (role_at roles w.job).mode
-    then (role_at roles w.job).weight + (role_at roles w.job).weight
-    else (role_at roles w.job).weight
-
 abbrev pub group_weight : List Role → List Window → ℕ → ℕ
 group_weight roles ws g =
     max (greatest (alone_weight roles g) ws) (total (shared_weight roles g) ws)

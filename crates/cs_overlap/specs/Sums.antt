@@ -8,8 +8,8 @@ use Rattle.cs_windows.specs.Window.{touches}
 use Rattle.cs_theorem.specs.Windows.{holders}
 use Rattle.cs_overlap.specs.declared.role.Role.{Role}
 use Rattle.cs_overlap.specs.declared.table.Amount.{Amount}
-use Rattle.cs_overlap.specs.declared.table.Amount.TheVariants.{FreeWeight, CatchWeight, AloneWeight, SharedWeight, Run, PlainRun, CronRun, LockRun}
-use Rattle.cs_overlap.specs.Roles.{role_at, roles_clash, load_by}
+use Rattle.cs_overlap.specs.declared.table.Amount.TheVariants.{FreeWeight, CatchWeight, AloneWeight, SharedWeight, OwnWeight, Run, PlainRun, CronRun, LockRun}
+use Rattle.cs_overlap.specs.Roles.{role_at, roles_clash, catch_weight, load_by}
 use Rattle.cs_overlap.specs.Found.{role_blocks}
 
 -- how much a run of such a job counts
@@ -18,6 +18,7 @@ amount_of FreeWeight r = if r.is_cron && not (takes r.mode) then r.weight else 0
 amount_of CatchWeight r = if not r.is_cron then r.weight else 0
 amount_of AloneWeight r = if takes r.mode && not (shares_in r.mode) then r.weight else 0
 amount_of SharedWeight r = if takes r.mode && shares_in r.mode then r.weight else 0
+amount_of OwnWeight r = if r.is_cron || takes r.mode then r.weight else 0
 amount_of Run r = 1
 amount_of PlainRun r = if not (takes r.mode) then 1 else 0
 amount_of CronRun r = if r.is_cron then 1 else 0
@@ -99,6 +100,15 @@ abbrev pub NoneClash : ℕ → List ℕ → List ℕ → List ℕ → Type 0
 NoneClash end runs plain cron = Until end
     (λ m. (slice_index runs m ≤ 1) ⊎ ((slice_index plain m ≡ 0) ⊎ (slice_index cron m ≡ 0)))
 
+-- the window's job has no exclusive group
+abbrev pub NotExclusive : List Role → Window → Type 0
+NotExclusive roles w = (role_at roles w.job).is_exclusive ≡ false
+
+-- the window's job takes a lock if it has a group
+abbrev pub Locks : List Role → Window → Type 0
+Locks roles w =
+    is_some (role_at roles w.job).group ≡ true → takes (role_at roles w.job).mode ≡ true
+
 -- if the window is a skip job's that begins before minute `end` of the last day, the table has at
 -- most one there
 abbrev pub IsLone : ℕ → List Role → List ℕ → Window → Type 0
@@ -122,6 +132,12 @@ abbrev pub IsGreaterAdded : List ℕ → List ℕ → List ℕ → List ℕ → 
 IsGreaterAdded one other old new = EachMinute
     (λ m. slice_index new m
     ≡ capped (slice_index old m + max (slice_index one m) (slice_index other m)))
+
+-- at each minute of the day the heaviest catch-up is added
+abbrev pub IsCaught : List Role → List Window → List ℕ → List ℕ → Type 0
+IsCaught roles ws old new = EachMinute
+    (λ m. slice_index new m
+    ≡ capped (slice_index old m + greatest (catch_weight roles) (holders m ws)))
 
 abbrev pub IsDay : List ℕ → Type 0
 IsDay table = length table ≡ 1440

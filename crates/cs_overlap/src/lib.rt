@@ -2,7 +2,6 @@
 #![tactic(auto)]
 
 mod found;
-mod laws;
 mod load;
 mod quiet;
 mod role;
@@ -12,6 +11,5 @@ mod sums;
 mod table;
 
 pub use found::missing;
-pub use laws::quiet_windows_are_calm;
 pub use quiet::Quiet;
 pub use roles::Roles;

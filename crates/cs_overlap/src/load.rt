@@ -1,6 +1,6 @@
 ghost use Rattle.std.specs.Prelude.{◌≡◌, ℕ, ◌+◌, ◌*◌, ◌^◌, ◌<◌, ◌≤◌, ◌↔◌, IsTrue, max, length, slice_index};
 ghost use Rattle.cs_history.specs.Lists.{total, greatest, below};
-ghost use Rattle.cs_overlap.specs.Roles.{free_weight, alone_weight, shared_weight, catch_weight, most_weight, load_by};
+ghost use Rattle.cs_overlap.specs.Roles.{free_weight, alone_weight, shared_weight, catch_weight, load_by};
 
 use crate::role::{Role, role_of};
 use cs_windows::Window;
@@ -23,20 +23,6 @@ fn catch_weight(roles: &[Role], window: &Window) -> u8
 {
     let role = role_of(roles, window);
     if role.is_cron { 0 } else { role.weight }
-}
-
-/// A catch-up window that takes a lock may count in its group and as catch-up.
-fn most_weight(roles: &[Role], window: &Window) -> u16
-    ensures value { result ≡ most_weight roles.now window.now }
-    ensures small { result ≤ 510 }
-{
-    let role = role_of(roles, window);
-    let weight = u16::from(role.weight);
-    if !role.is_cron && role.mode.takes_lock() {
-        weight + weight
-    } else {
-        weight
-    }
 }
 
 fn free_load(roles: &[Role], windows: &[Window]) -> u128
@@ -127,27 +113,4 @@ pub(crate) fn load(roles: &[Role], groups: usize, windows: &[Window]) -> u128
     free_load(roles, windows)
         + group_load(&alone, &shared, groups)
         + u128::from(catch_load(roles, windows))
-}
-
-fn most_load(roles: &[Role], windows: &[Window]) -> u128
-    ensures { result ≡ total (most_weight roles.now) windows.now }
-{
-    let mut sum = 0u128;
-    for window in windows {
-        sum += u128::from(most_weight(roles, window));
-    }
-    sum
-}
-
-/// The load is worked out only if the most that the windows may weigh exceeds the capacity.
-#[tactic(auto, using(crate::proofs::MostWeights::load_most))]
-pub(crate) fn fits(roles: &[Role], groups: usize, capacity: u8, windows: &[Window]) -> bool
-    requires few { groups ≤ 64 }
-    ensures { IsTrue result ↔ (load_by roles.now groups windows.now ≤ capacity) }
-{
-    let capacity = u128::from(capacity);
-    if most_load(roles, windows) <= capacity {
-        return true;
-    }
-    load(roles, groups, windows) <= capacity
 }

@@ -9,15 +9,11 @@ ghost use Rattle.cs_windows.specs.Window.{IsRising};
 
 use crate::quiet::Quiet;
 use crate::role::Role;
-use crate::{found, quiet, sums};
+use crate::{found, sums};
 use cs_plan::{Job, Plan};
 use cs_windows::Window;
 use std::alloc::{AllocError, Global};
 use std::marker::Model;
-
-/// From this many windows on a stretch is tested by sums, which take the same time for each window.
-/// The other test compares each window with all that are open then.
-const MANY_WINDOWS: usize = 512;
 
 /// What the rules about windows need of the jobs of a plan, read once for all stretches.
 #[derive(Drop)]
@@ -108,11 +104,7 @@ impl Roles {
         ensures free { IfOk result (λ quiet. IsTrue quiet.is_free
             → (p : TheoryPlan) → IsOf p self.now → AreFree p windows.now) }
     {
-        if windows.len() < MANY_WINDOWS {
-            quiet::quiet_by_rule(alloc, self.jobs(), self.groups(), self.capacity(), windows)
-        } else {
-            sums::quiet_by_sums(alloc, self.jobs(), self.groups(), self.capacity(), windows)
-        }
+        sums::quiet_by_sums(alloc, self.jobs(), self.groups(), self.capacity(), windows)
     }
 
     /// Returns the first minute of the last day of a stretch at which two windows of one exclusive

@@ -1,8 +1,8 @@
-//! One pass over all windows of a stretch: the load without locks, and the few to look at again.
+//! One pass over all windows of a stretch: what each may weigh, and the few to look at again.
 ghost use Rattle.std.specs.Prelude.{◌≡◌, ◌++◌, IfOk, [], ◌∷◌, filter, if◌then◌else◌, map};
 ghost use Rattle.cs_overlap.specs.Split.{share_at, share_in};
 ghost use Rattle.cs_overlap.specs.Sums.{IsDay, IsSum, amount_in, has_group_or_catches};
-ghost use Rattle.cs_overlap.specs.declared.table.Amount.TheVariants.{FreeWeight};
+ghost use Rattle.cs_overlap.specs.declared.table.Amount.TheVariants.{OwnWeight};
 
 use crate::role::{Role, role_of};
 use crate::table::{
@@ -13,7 +13,7 @@ use std::alloc::{AllocError, Global};
 
 #[derive(Clone, Copy)]
 struct Share {
-    /// The weight of each, if the job is a cron job that takes no lock, else 0.
+    /// The weight of each, but 0 for catch-up that takes no lock.
     weight: u8,
     /// Whether each is kept, since the job has a group or is catch-up.
     is_kept: bool,
@@ -23,7 +23,7 @@ fn share_in(role: Role) -> Share
     ensures { result ≡ share_in role }
 {
     Share {
-        weight: amount_of(Amount::FreeWeight, role),
+        weight: amount_of(Amount::OwnWeight, role),
         is_kept: !role.is_cron || role.group.is_some(),
     }
 }
@@ -84,24 +84,24 @@ fn keep(others: &mut Vec<Window>, is_kept: bool, window: &Window) -> Result<(), 
     Ok(())
 }
 
-/// The weight at each minute of the cron jobs that take no lock; and in order the windows of
-/// catch-up and of jobs with a group, usually a few of all. Each weight is added where the window
-/// begins and taken off where it ends, so that the cost doesn't grow with the minutes that windows
-/// hold.
-pub(crate) fn free_and_others(
+/// The weight at each minute of all windows but those of catch-up that takes no lock; and in order
+/// the windows of catch-up and of jobs with a group, usually a few of all. Each weight is added
+/// where the window begins and taken off where it ends, so that the cost doesn't grow with the
+/// minutes that windows hold.
+pub(crate) fn own_and_others(
     alloc: Global,
     roles: &[Role],
     windows: &[Window],
 ) -> Result<([u16; MINUTES], Vec<Window>), AllocError>
     ensures day { IfOk result (λ found. IsDay found.0) }
     ensures each { IfOk result (λ found.
-        IsSum (amount_in roles.now FreeWeight) windows.now found.0) }
+        IsSum (amount_in roles.now OwnWeight) windows.now found.0) }
     ensures others { IfOk result (λ found.
         found.1.items ≡ filter (has_group_or_catches roles.now) windows.now) }
 {
     if windows.len() > MOST_TALLIED {
         let others = grouped_or_catch_up(alloc, roles, windows)?;
-        return Ok((sums(roles, Amount::FreeWeight, windows), others));
+        return Ok((sums(roles, Amount::OwnWeight, windows), others));
     }
     let shares = shares(alloc, roles)?;
     let mut others = Vec::new(alloc);

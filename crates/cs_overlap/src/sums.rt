@@ -1,14 +1,14 @@
 //! How long the windows of one stretch keep each rule, by sums over the minutes of the last day.
-ghost use Rattle.std.specs.Prelude.{◌≡◌, ◌≤◌, IfOk, IsTrue, false, filter, slice_index, true};
+ghost use Rattle.std.specs.Prelude.{ℕ, ◌≡◌, ◌≤◌, ◌⊎◌, IfOk, IsTrue, false, filter, slice_index, true};
 ghost use Rattle.std.specs.List.{AllByRecursion};
-ghost use Rattle.cs_history.specs.Plan.{takes, is_skip};
+ghost use Rattle.cs_history.specs.Plan.{is_skip};
 ghost use Rattle.cs_overlap.specs.Roles.{role_at};
-ghost use Rattle.cs_overlap.specs.Sums.{AreApartBy, AreFreeBy, AreGrouped, AreWithinBy, IsAdded, IsDay, IsGreaterAdded, IsLoad, IsLone, IsSum, NoneClash, Until, amount_in, has_group_or_catches, is_of};
-ghost use Rattle.cs_overlap.specs.declared.table.Amount.TheVariants.{FreeWeight};
+ghost use Rattle.cs_overlap.specs.Sums.{AreApartBy, AreFreeBy, AreGrouped, AreWithinBy, IsAdded, IsCaught, IsDay, IsGreaterAdded, IsLone, IsSum, Locks, NoneClash, NotExclusive, Until, amount_in, has_group_or_catches, is_of};
+ghost use Rattle.cs_overlap.specs.declared.table.Amount.TheVariants.{OwnWeight};
 
 use crate::quiet::Quiet;
 use crate::role::{Role, role_of};
-use crate::split::free_and_others;
+use crate::split::own_and_others;
 use crate::table::{Amount, MINUTES, greatest, sums};
 use cs_civil::MINUTES_OF_DAY;
 use cs_windows::Window;
@@ -40,28 +40,20 @@ pub(crate) fn is_of(roles: &[Role], group: usize, window: &Window) -> bool
     }
 }
 
-fn any_exclusive(roles: &[Role], windows: &[Window]) -> bool
-    ensures { result ≡ false
-        → AllByRecursion (λ w. (role_at roles.now w.job).is_exclusive ≡ false) windows.now }
+/// Checks whether windows may clash: some job's group is exclusive, and some job with a group takes
+/// no lock.
+fn may_clash(roles: &[Role], windows: &[Window]) -> bool
+    ensures { result ≡ false → AllByRecursion (NotExclusive roles.now) windows.now
+        ⊎ AllByRecursion (Locks roles.now) windows.now }
 {
+    let mut any_exclusive = false;
+    let mut any_plain = false;
     for window in windows {
-        if role_of(roles, window).is_exclusive {
-            return true;
-        }
+        let role = role_of(roles, window);
+        any_exclusive = any_exclusive || role.is_exclusive;
+        any_plain = any_plain || (role.group.is_some() && !role.mode.takes_lock());
     }
-    false
-}
-
-fn any_plain(roles: &[Role], windows: &[Window]) -> bool
-    ensures { result ≡ false
-        → AllByRecursion (λ w. takes (role_at roles.now w.job).mode ≡ true) windows.now }
-{
-    for window in windows {
-        if !role_of(roles, window).mode.takes_lock() {
-            return true;
-        }
-    }
-    false
+    any_exclusive && any_plain
 }
 
 fn first_clash(runs: &[u16], plain: &[u16], cron: &[u16]) -> u16
@@ -77,15 +69,13 @@ fn first_clash(runs: &[u16], plain: &[u16], cron: &[u16]) -> u16
     MINUTES_OF_DAY
 }
 
-/// A minute before which no two windows of a group clash.
+/// A minute before which no two windows clash. It may be less than it could be where they are of
+/// several groups.
 fn apart_until(roles: &[Role], windows: &[Window]) -> u16
     ensures range { result ≤ 1440 }
     ensures apart { AreApartBy result roles.now windows.now }
 {
-    if !any_exclusive(roles, windows) {
-        return MINUTES_OF_DAY;
-    }
-    if !any_plain(roles, windows) {
+    if !may_clash(roles, windows) {
         return MINUTES_OF_DAY;
     }
     let runs = sums(roles, Amount::Run, windows);
@@ -140,7 +130,8 @@ fn any_skips(roles: &[Role], windows: &[Window]) -> bool
     false
 }
 
-/// A minute before which no window of a group keeps the lock from a skip job.
+/// A minute before which no window keeps the lock from a skip job. It may be less than it could be
+/// where they are of several groups.
 fn free_until(roles: &[Role], windows: &[Window]) -> u16
     ensures range { result ≤ 1440 }
     ensures free { AreFreeBy result roles.now windows.now }
@@ -176,22 +167,22 @@ fn first_over(load: &[u16], capacity: u8) -> u16
     MINUTES_OF_DAY
 }
 
-fn add_catch_up(free: &mut [u16], roles: &[Role], windows: &[Window], others: &[Window])
-    requires free { IsDay free.old × IsSum (amount_in roles.now FreeWeight) windows.now free.old }
+fn add_catch_up(table: &mut [u16], roles: &[Role], windows: &[Window], others: &[Window])
+    requires day { IsDay table.old }
     requires others { others.now ≡ filter (has_group_or_catches roles.now) windows.now }
-    ensures day { IsDay free.new }
-    ensures each { IsLoad roles.now windows.now 0 free.new }
+    ensures day { IsDay table.new }
+    ensures each { IsCaught roles.now windows.now table.old table.new }
 {
     let catch_up = greatest(roles, Amount::CatchWeight, others);
-    add_greater(free, &catch_up, &catch_up);
+    add_greater(table, &catch_up, &catch_up);
 }
 
-fn add_group(load: &mut [u16], roles: &[Role], windows: &[Window])
+fn add_group(load: &mut [u16], roles: &[Role], windows: &[Window], is_asked: bool)
     requires { IsDay load.old }
-    ensures each { IsAdded roles.now windows.now load.old load.new }
+    ensures each { is_asked ≡ true → IsAdded roles.now windows.now load.old load.new }
     ensures day { IsDay load.new }
 {
-    if windows.is_empty() {
+    if !is_asked || windows.is_empty() {
         return;
     }
     let alone = greatest(roles, Amount::AloneWeight, windows);
@@ -208,6 +199,31 @@ pub(crate) struct KeptUntil {
     pub(crate) free: u16,
 }
 
+/// Looks at all groups at once, as if each window that takes a lock weighed beside all others.
+/// Nearly always this shows that the whole day keeps each rule.
+fn quick_until(
+    roles: &[Role],
+    capacity: u8,
+    most: &mut [u16],
+    windows: &[Window],
+    others: &[Window],
+) -> KeptUntil
+    requires most { IsDay most.old × IsSum (amount_in roles.now OwnWeight) windows.now most.old }
+    requires others { others.now ≡ filter (has_group_or_catches roles.now) windows.now }
+    ensures range { (result.apart ≤ 1440) × (result.within ≤ 1440) × (result.free ≤ 1440) }
+    ensures apart { AreApartBy result.apart roles.now others.now }
+    ensures within { (n : ℕ) → AreWithinBy result.within roles.now n capacity windows.now }
+    ensures free { AreFreeBy result.free roles.now others.now }
+{
+    add_catch_up(most, roles, windows, others);
+    KeptUntil {
+        apart: apart_until(roles, others),
+        within: first_over(most, capacity),
+        free: free_until(roles, others),
+    }
+}
+
+/// The groups are looked at one by one only where all at once don't show that the day is kept.
 pub(crate) fn kept_until(
     alloc: Global,
     roles: &[Role],
@@ -223,21 +239,27 @@ pub(crate) fn kept_until(
         AreWithinBy kept.within roles.now groups capacity windows.now) }
     ensures free { IfOk result (λ kept. AreFreeBy kept.free roles.now windows.now) }
 {
-    let (mut load, others) = free_and_others(alloc, roles, windows)?;
+    let (mut most, others) = own_and_others(alloc, roles, windows)?;
     let others = others.as_slice();
+    let quick = quick_until(roles, capacity, &mut most, windows, others);
+    if quick.apart.min(quick.within).min(quick.free) == MINUTES_OF_DAY {
+        return Ok(quick);
+    }
+    let is_asked = quick.within < MINUTES_OF_DAY;
+    let mut load = sums(roles, Amount::FreeWeight, windows);
     add_catch_up(&mut load, roles, windows, others);
     let mut apart = MINUTES_OF_DAY;
     let mut free = MINUTES_OF_DAY;
     for group in 0..groups {
         let found = windows_of(alloc, roles, group, others)?;
         let found = found.as_slice();
-        add_group(&mut load, roles, found);
+        add_group(&mut load, roles, found, is_asked);
         apart = apart.min(apart_until(roles, found));
         free = free.min(free_until(roles, found));
     }
     Ok(KeptUntil {
         apart,
-        within: first_over(&load, capacity),
+        within: quick.within.max(first_over(&load, capacity)),
         free,
     })
 }

@@ -27,6 +27,8 @@ pub(crate) enum Amount {
     AloneWeight,
     /// The weight of a run that shares its lock.
     SharedWeight,
+    /// The weight of a cron job's run, and of a catch-up run that takes a lock.
+    OwnWeight,
     /// One for each run.
     Run,
     /// One for a run that takes no lock.
@@ -51,6 +53,7 @@ pub(crate) fn amount_of(amount: Amount, role: Role) -> u8
         Amount::CatchWeight => counted(!role.is_cron, role.weight),
         Amount::AloneWeight => counted(role.mode.takes_lock() && !role.mode.shares(), role.weight),
         Amount::SharedWeight => counted(role.mode.takes_lock() && role.mode.shares(), role.weight),
+        Amount::OwnWeight => counted(role.is_cron || role.mode.takes_lock(), role.weight),
         Amount::Run => 1,
         Amount::PlainRun => counted(!role.mode.takes_lock(), 1),
         Amount::CronRun => counted(role.is_cron, 1),

@@ -1,6 +1,6 @@
 use Rattle.std.proofs.Common.{ap, sym, ◌∙◌}
 use Rattle.cs_overlap.specs.declared.role.Role.{Role}
-use Rattle.cs_overlap.proofs.QuietLemmas.{not_true}
+use Rattle.cs_overlap.proofs.FilterLemmas.{not_true}
 use Rattle.cs_overlap.proofs.FoundLemmas.{rival_free, rival_none}
 use Rattle.cs_overlap.proofs.found.rival_of.Goals as goal
 

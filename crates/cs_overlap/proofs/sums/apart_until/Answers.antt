@@ -1,11 +1,9 @@
+use Rattle.std.proofs.Common.{⊎_elim}
 use Rattle.cs_overlap.proofs.SumLemmas.{apart_day, apart_lockers, apart_none}
 use Rattle.cs_overlap.proofs.sums.apart_until.Goals as goal
 
-pub returns-then-not-any_exclusive-clause-apart : goal.returns-then-not-any_exclusive-clause-apart
-returns-then-not-any_exclusive-clause-apart c = apart_none c.args.roles.now 1440 c.args.windows.now (c.any_exclusive.ensures c.if-not-any_exclusive.true)
-
-pub returns-then-not-any_plain-clause-apart : goal.returns-then-not-any_plain-clause-apart
-returns-then-not-any_plain-clause-apart c = apart_lockers c.args.roles.now 1440 c.args.windows.now (c.any_plain.ensures c.if-not-any_plain.true)
+pub returns-then-not-may_clash-clause-apart : goal.returns-then-not-may_clash-clause-apart
+returns-then-not-may_clash-clause-apart c = ⊎_elim (apart_none c.args.roles.now 1440 c.args.windows.now) (apart_lockers c.args.roles.now 1440 c.args.windows.now) (c.may_clash.ensures c.if-not-may_clash.true)
 
 pub returns-clause-apart : goal.returns-clause-apart
 returns-clause-apart c =

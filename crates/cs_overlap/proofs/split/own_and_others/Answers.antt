@@ -2,13 +2,13 @@ use Rattle.std.proofs.Common.{arith, refl, List, ℕ, ◌+◌, ◌*◌, ◌≡�
 use Rattle.cs_windows.specs.declared.window.Window.{Window}
 use Rattle.cs_overlap.specs.declared.role.Role.{Role}
 use Rattle.cs_overlap.specs.declared.split.Share.{Share}
-use Rattle.cs_overlap.specs.declared.table.Amount.TheVariants.{FreeWeight}
+use Rattle.cs_overlap.specs.declared.table.Amount.TheVariants.{OwnWeight}
 use Rattle.cs_overlap.specs.Roles.{role_at}
 use Rattle.cs_overlap.specs.Split.{share_in}
 use Rattle.cs_overlap.specs.Sums.{AreAtMost, amount_in, has_group_or_catches}
 use Rattle.cs_overlap.proofs.SplitLemmas.{share_is, kept_more}
 use Rattle.cs_overlap.proofs.TallyLemmas.{tally_step, none_at, none_up_to}
-use Rattle.cs_overlap.proofs.split.free_and_others.Goals as goal
+use Rattle.cs_overlap.proofs.split.own_and_others.Goals as goal
 
 pub loop-window-init : goal.loop-window-init
 loop-window-init c = record {
@@ -27,7 +27,7 @@ loop-window-preserved c =
     let ws : List Window = c.args.windows.now in
     let d : Window = record { job = 0; day_back = 0; from = 0; reach = 0 } in
     let w : Window = get_or ws i d in
-    let f = amount_in roles FreeWeight in
+    let f = amount_in roles OwnWeight in
     let first = c.minutes_held-first.result.0 in
     let end = c.minutes_held-first.result.1 in
     let share : Share = c.share_at-share.result in

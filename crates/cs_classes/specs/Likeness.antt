@@ -1,5 +1,5 @@
 -- Whether the classes of a certificate have the due minutes of the cron jobs, whatever the day.
-use Rattle.std.specs.Prelude.{◌≡◌, ◌<◌, ℕ, Bool, false, List, [], length, slice_index_or, nat_lt, ◌&&◌, ⊤}
+use Rattle.std.specs.Prelude.{◌≡◌, ◌<◌, ℕ, Bool, false, List, [], filter, length, slice_index_or, nat_lt, ◌&&◌, ⊤}
 use Rattle.std.specs.List.{list_all}
 use Rattle.cs_crontab.specs.declared.table.When.{When}
 use Rattle.cs_crontab.specs.declared.table.When.TheVariants.{At, Reboot}
@@ -94,6 +94,12 @@ pub record AreTimes (d : Declared) (times : List Times) : Type 0 where
   pub long : length times ≡ crons d
   pub each : (j : ℕ) → j < crons d
       → AreTimesOf d.zone (command_of d j).when (slice_index_or times j no_times)
+
+-- a list for each cron job, by number: its minutes on plain days
+pub record ArePlain (d : Declared) (lists : List (List ℕ)) : Type 0 where
+  pub long : length lists ≡ crons d
+  pub each : (j : ℕ) → j < crons d → slice_index_or lists j []
+      ≡ filter (is_due_by d.zone (command_of d j).when Plain) day_minutes
 
 pub record IsRow (d : Declared) (class : Class) (row : List Likeness) : Type 0 where
   pub long : length row ≡ crons d

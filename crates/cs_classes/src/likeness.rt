@@ -1,9 +1,10 @@
-ghost use Rattle.std.specs.Prelude.{◌≡◌, ◌≢◌, ◌<◌, ◌&&◌, [], ℕ, IfOk};
+ghost use Rattle.std.specs.Prelude.{◌≡◌, ◌≢◌, ◌<◌, ◌&&◌, [], ℕ, IfOk, filter};
 ghost use Rattle.cs_claims.specs.Certificate.{is_due_in};
 ghost use Rattle.cs_classes.specs.Likeness.{AreTimes, AreTimesOf, IsCompared, IsLikeness, IsRow, has_just, is_due_by, likeness_by, likeness_in};
 ghost use Rattle.cs_classes.specs.Planned.{is_due_on};
 ghost use Rattle.cs_plan.specs.Plan.{Declared};
 ghost use Rattle.cs_schedule.specs.Numbers.{has};
+ghost use Rattle.cs_windows.specs.Windows.{day_minutes};
 ghost use Rattle.cs_zone.specs.Starts.{is_due};
 ghost use Rattle.cs_zone.specs.Shape.{is_due_in as is_shape_due};
 ghost use Rattle.cs_zone.specs.declared.shape.Shape.TheVariants.{Jump};
@@ -79,7 +80,7 @@ fn shape_by(zone: Zone, schedule: &Schedule, kind: DayKind) -> Shape
 }
 
 /// The same of a line: at a restart there are none.
-fn shape_on(zone: Zone, line: &Line, kind: DayKind) -> Shape
+pub(crate) fn shape_on(zone: Zone, line: &Line, kind: DayKind) -> Shape
     ensures compared { result ≢ Jump → IsCompared zone result }
     ensures minutes { result ≢ Jump → (m : ℕ) → m < 1440
         → is_due_by zone line.now.when result m ≡ is_due_on zone line.now.when kind m }
@@ -91,9 +92,10 @@ fn shape_on(zone: Zone, line: &Line, kind: DayKind) -> Shape
 }
 
 /// The minutes at which a command is due on the days of a shape, where such days come.
-fn times_by(zone: Zone, line: &Line, shape: Shape) -> MinuteSet
-    ensures { IsCompared zone shape → (m : ℕ) → m < 1440
+pub(crate) fn times_by(zone: Zone, line: &Line, shape: Shape) -> MinuteSet
+    ensures has { IsCompared zone shape → (m : ℕ) → m < 1440
         → has result m ≡ is_due_by zone line.now.when shape m }
+    ensures all { result ≡ filter (is_due_by zone line.now.when shape) day_minutes }
 {
     match line.when() {
         When::At(schedule) => zone.minutes_in(schedule, shape),

@@ -1,30 +1,27 @@
 ghost use Rattle.std.specs.Prelude.{◌≡◌, ◌≤◌, ◌<◌, ◌+◌, ◌*◌, ◌^◌, ℕ, [], IfOk, if◌then◌else◌, length, slice_index};
-ghost use Rattle.cs_claims.specs.Certificate.{pieces_of};
+ghost use Rattle.cs_claims.specs.Certificate.{is_due_in, pieces_of};
 ghost use Rattle.cs_claims.specs.declared.class.Class.{Class};
 ghost use Rattle.cs_history.specs.Plan.{Plan as TheoryPlan};
-ghost use Rattle.cs_classes.specs.DayMinutes.{AreRising};
 ghost use Rattle.cs_classes.specs.Work.{AreWorks, IsWork, arrivals_in, brought, rise_at, rise_between, rise_of};
 ghost use Rattle.cs_plan.specs.Plan.{as_plan, crons};
-ghost use Rattle.cs_schedule.specs.Numbers.{has};
 
 use crate::due::due_in_order;
 use crate::locks::{cron_job, has_waiter, locks};
 use cs_civil::MINUTES_OF_DAY;
 use cs_claims::{Class, GroupBacklog};
 use cs_plan::Plan;
-use cs_schedule::MinuteSet;
 use cs_wait::{Arrivals, Backlog, step_ok};
 use std::alloc::{AllocError, Global};
 
-fn add_job(arrivals: &mut Arrivals, minutes: &MinuteSet, max: u16)
-    requires rising { AreRising minutes.now }
+fn add_job(arrivals: &mut Arrivals, class: &Class, number: u16, max: u16)
     requires long { length arrivals.old ≡ 1440 }
     requires fits { (m : ℕ) → m < 1440 → slice_index arrivals.old m + max < 2 ^ 32 }
     ensures long { length arrivals.new ≡ 1440 }
     ensures each { (m : ℕ) → m < 1440
         → slice_index arrivals.new m
-        ≡ slice_index arrivals.old m + (if has minutes.now m then max else 0) }
+        ≡ slice_index arrivals.old m + (if is_due_in class.now number m then max else 0) }
 {
+    let minutes = due_in_order(class, number);
     for minute in minutes.iter() {
         arrivals.add(minute, max);
     }
@@ -42,7 +39,7 @@ fn add_locker(arrivals: &mut Arrivals, plan: &Plan, class: &Class, group: usize,
 {
     let job = cron_job(plan, number);
     if locks(job, group) {
-        add_job(arrivals, &due_in_order(class, number as u16), job.max());
+        add_job(arrivals, class, number as u16, job.max());
     }
 }
 

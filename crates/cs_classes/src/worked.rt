@@ -1,9 +1,12 @@
 ghost use Rattle.std.specs.Prelude.{◌≡◌, ◌≤◌, ◌<◌, ◌++◌, [], Some, IfOk, OnOk, filter, map};
 ghost use Rattle.cs_claims.specs.Certificate.{bound_in};
+ghost use Rattle.cs_classes.specs.Likeness.{ArePlain, is_due_by};
 ghost use Rattle.cs_classes.specs.Planned.{is_due_on};
 ghost use Rattle.cs_classes.specs.StandsFor.{bound_of, due_list, due_of, unbounded, waited_groups, worked_class};
 ghost use Rattle.cs_windows.specs.Windows.{day_minutes};
+ghost use Rattle.cs_zone.specs.declared.shape.Shape.TheVariants.{Plain};
 
+use crate::likeness::{shape_on, times_by};
 use crate::locks::has_waiter;
 use crate::steps::{arrivals_in, backlog_of};
 use cs_civil::{DayKind, Sequence};
@@ -12,7 +15,7 @@ use cs_crontab::{Line, When};
 use cs_plan::Plan;
 use cs_schedule::MinuteSet;
 use cs_wait::{Backlog, MAX_BACKLOG};
-use cs_zone::Zone;
+use cs_zone::{Shape, Zone};
 use std::alloc::{AllocError, Global};
 
 /// The minutes of a day at which cron(8) starts a command, by the clock of the zone.
@@ -35,42 +38,76 @@ fn listed(alloc: Global, minutes: &MinuteSet) -> Result<Sequence<u16>, AllocErro
     Ok(listed)
 }
 
-fn add_list(
-    alloc: Global,
-    due: &mut Sequence<DueList>,
-    job: u16,
-    minutes: &MinuteSet,
-) -> Result<(), AllocError>
-    ensures { OnOk result (due.new ≡ due.old ++ due_list job minutes.now) }
+/// The minutes of each command on plain days, by number. The only error is out of memory.
+pub(crate) fn plain_lists(alloc: Global, plan: &Plan) -> Result<Vec<Sequence<u16>>, AllocError>
+    ensures { IfOk result (λ plain. ArePlain plan.now plain.items) }
 {
-    let minutes = listed(alloc, minutes)?;
+    let mut plain = Vec::new(alloc);
+    for line in plan.crontab().lines() {
+        let minutes = times_by(*plan.zone(), line, Shape::Plain);
+        plain.push(listed(alloc, &minutes)?)?;
+    }
+    Ok(plain)
+}
+
+/// The minutes of a day, copied from those of plain days where the day is plain.
+fn listed_on(
+    alloc: Global,
+    zone: Zone,
+    line: &Line,
+    plain: &[u16],
+    kind: DayKind,
+) -> Result<Sequence<u16>, AllocError>
+    requires { plain.now ≡ filter (is_due_by zone line.now.when Plain) day_minutes }
+    ensures { IfOk result (λ listed.
+        listed ≡ filter (is_due_on zone line.now.when kind) day_minutes) }
+{
+    match shape_on(zone, line, kind) {
+        Shape::Never => Ok(Sequence::new(alloc)),
+        Shape::Plain => Sequence::from_slice(alloc, plain),
+        _ => listed(alloc, &minutes_on(zone, line, kind)),
+    }
+}
+
+fn add_list(due: &mut Sequence<DueList>, job: u16, minutes: Sequence<u16>) -> Result<(), AllocError>
+    ensures { OnOk result (due.new ≡ due.old ++ due_list job minutes) }
+{
     if minutes.is_empty() {
         return Ok(());
     }
     due.push(DueList { job, minutes })
 }
 
-fn due_on(alloc: Global, plan: &Plan, kind: DayKind) -> Result<Sequence<DueList>, AllocError>
+fn due_on(
+    alloc: Global,
+    plan: &Plan,
+    plain: &[Sequence<u16>],
+    kind: DayKind,
+) -> Result<Sequence<DueList>, AllocError>
+    requires { ArePlain plan.now plain.now }
     ensures { IfOk result (λ due. due ≡ due_of plan.now (Some kind)) }
 {
+    let zone = *plan.zone();
     let mut due = Sequence::new(alloc);
     for (job, line) in plan.crontab().lines().iter().enumerate() {
-        add_list(
-            alloc,
-            &mut due,
-            job as u16,
-            &minutes_on(*plan.zone(), line, kind),
-        )?;
+        let minutes = listed_on(alloc, zone, line, plain[job].as_slice(), kind)?;
+        add_list(&mut due, job as u16, minutes)?;
     }
     Ok(due)
 }
 
 /// A day of that kind, without bounds. Nothing is due without a kind.
-fn unbounded(alloc: Global, plan: &Plan, kind: Option<DayKind>) -> Result<Class, AllocError>
+fn unbounded(
+    alloc: Global,
+    plan: &Plan,
+    plain: &[Sequence<u16>],
+    kind: Option<DayKind>,
+) -> Result<Class, AllocError>
+    requires { ArePlain plan.now plain.now }
     ensures { IfOk result (λ day. day ≡ unbounded plan.now kind) }
 {
     let due = match kind {
-        Some(kind) => due_on(alloc, plan, kind)?,
+        Some(kind) => due_on(alloc, plan, plain, kind)?,
         None => Sequence::new(alloc),
     };
     Ok(Class {
@@ -136,12 +173,14 @@ fn bounds_on(
 pub fn worked_class(
     alloc: Global,
     plan: &Plan,
+    plain: &[Sequence<u16>],
     kind: Option<DayKind>,
     class: &Class,
 ) -> Result<Class, AllocError>
+    requires { ArePlain plan.now plain.now }
     ensures { IfOk result (λ worked. worked ≡ worked_class plan.now kind class.now) }
 {
-    let mut day = unbounded(alloc, plan, kind)?;
+    let mut day = unbounded(alloc, plan, plain, kind)?;
     day.backlog = bounds_on(alloc, plan, &day, class)?;
     Ok(day)
 }

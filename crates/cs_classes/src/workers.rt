@@ -1,7 +1,7 @@
 ghost use denote.Param.Send.{IsSync};
 ghost use Rattle.std.specs.Prelude.{◌≡◌, ◌<◌, IfOk, length, map, ⊤};
 ghost use Rattle.cs_claims.specs.Certificate.{content};
-ghost use Rattle.cs_classes.specs.Likeness.{AreLikenesses, AreTimes, IsRow};
+ghost use Rattle.cs_classes.specs.Likeness.{AreLikenesses, ArePlain, AreTimes, IsRow};
 ghost use Rattle.cs_classes.specs.WorkedOut.{classed_kind};
 ghost use Rattle.cs_civil.specs.Order.{all_kinds};
 ghost use Rattle.cs_classes.specs.StandsFor.{worked_classes, worked_of};
@@ -10,6 +10,7 @@ ghost use Rattle.cs_plan.specs.Plan.{Declared};
 
 use crate::claim::Claim;
 use crate::likeness::{Likeness, row_of, times_of_jobs};
+use crate::worked::plain_lists;
 use crate::working_out::{class_of_number, classed_kinds};
 use cs_civil::Sequence;
 use cs_claims::{Certificate, Class};
@@ -77,9 +78,12 @@ impl Workers for OneThread {
         certificate: &Certificate,
     ) -> Result<Vec<Class>, AllocError> {
         let kinds = classed_kinds(alloc, certificate)?;
+        let kinds = kinds.as_slice();
+        let plain = plain_lists(alloc, plan)?;
+        let plain = plain.as_slice();
         let mut worked = Vec::new(alloc);
         for number in 0..certificate.classes().len() {
-            worked.push(class_of_number(alloc, plan, certificate, kinds.as_slice(), number)?)?;
+            worked.push(class_of_number(alloc, plan, certificate, kinds, plain, number)?)?;
         }
         Ok(worked)
     }
@@ -121,16 +125,19 @@ impl<R: Threads + Sync> Workers for SeveralThreads<'_, R> {
     ) -> Result<Vec<Class>, AllocError> {
         let kinds = classed_kinds(alloc, certificate)?;
         let kinds = kinds.as_slice();
+        let plain = plain_lists(alloc, plan)?;
+        let plain = plain.as_slice();
         (0..certificate.classes().len())
             .into_par_iter()
             .with_min_len(1)
             .map(
                 |number: usize| -> Result<Class, AllocError>
                     requires { (number < length (content certificate.now).classes)
+                        × ArePlain plan.now plain.now
                         × (kinds.now ≡ map (classed_kind (content certificate.now)) all_kinds) }
                     ensures { IfOk result (λ worked.
                         worked ≡ worked_of plan.entry.now (content certificate.entry.now) number) }
-                { class_of_number(alloc, plan, certificate, kinds, number) },
+                { class_of_number(alloc, plan, certificate, kinds, plain, number) },
             )
             .collect::<Result<Vec<Class>, AllocError>>(self.0, alloc)?
     }

@@ -1,5 +1,6 @@
 ghost use Rattle.std.specs.Prelude.{◌≡◌, ◌<◌, IfOk, length, map};
 ghost use Rattle.cs_claims.specs.Certificate.{content};
+ghost use Rattle.cs_classes.specs.Likeness.{ArePlain};
 ghost use Rattle.cs_classes.specs.Used.{classes_in};
 ghost use Rattle.cs_classes.specs.WorkedOut.{IsWorkedOut, IsWorkedOutOf, classed_kind, first_classed};
 ghost use Rattle.cs_civil.specs.Order.{all_kinds};
@@ -62,15 +63,17 @@ pub(crate) fn class_of_number(
     plan: &Plan,
     certificate: &Certificate,
     kinds: &[ClassedKind],
+    plain: &[Sequence<u16>],
     number: usize,
 ) -> Result<Class, AllocError>
+    requires plain { ArePlain plan.now plain.now }
     requires there { number < length (content certificate.now).classes }
     requires kinds { kinds.now ≡ map (classed_kind (content certificate.now)) all_kinds }
     ensures { IfOk result (λ worked. worked ≡ worked_of plan.now (content certificate.now) number) }
 {
     let class = &certificate.classes()[number];
     let kind = first_kind(kinds, number as u32);
-    worked_class(alloc, plan, kind, class)
+    worked_class(alloc, plan, plain, kind, class)
 }
 
 fn distinct_lists(alloc: Global, chains: &[ClassedChain]) -> Result<IndexSet<&[u32]>, AllocError>

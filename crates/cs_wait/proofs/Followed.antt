@@ -1,9 +1,9 @@
-use Rattle.std.proofs.Common.{◌≡◌, ◌≢◌, ℕ, zero, suc, ◌+◌, ◌-◌, ◌<◌, ◌≤◌, ◌==◌, Bool, true, false, List, [], ◌∷◌, fold, get_or, length, min, refl, sym, ap, ◌∙◌, arith, add-one, if◌then◌else◌}
-use Rattle.std.proofs.lemmas.Bool.{le-leb, eqb-true, eq-eqb, both_ways}
+use Rattle.std.proofs.Common.{◌≡◌, ◌≢◌, ℕ, zero, suc, ◌+◌, ◌-◌, ◌<◌, ◌≤◌, ◌==◌, ◌++◌, Bool, true, false, List, [], ◌∷◌, drop, drop-cons, fold, get_or, length, min, refl, sym, ap, ◌∙◌, arith, add-one, append_assoc, if◌then◌else◌}
+use Rattle.std.proofs.lemmas.Bool.{le-leb, eqb-true, eq-eqb, ne_eqb, both_ways}
 use Rattle.cs_wait.specs.declared.backlog.Piece.{Piece}
 use Rattle.cs_wait.specs.declared.backlog.TheConstants.{MAX_BACKLOG}
 use Rattle.cs_wait.specs.Bounds.{IsBacklog, IsBacklogFrom, at, decided, following, following_from}
-use Rattle.cs_wait.proofs.Pieces.{later_decide_nothing}
+use Rattle.cs_wait.proofs.Pieces.{later_decide_nothing, sooner}
 
 abbrev pub after : ℕ → ℕ → ℕ
 after bound arrives = min MAX_BACKLOG (bound + arrives - 1)
@@ -13,10 +13,6 @@ abbrev pub bound_later : ℕ → List ℕ → ℕ → ℕ
 bound_later bound [] n = bound
 bound_later bound (a ∷ more) zero = bound
 bound_later bound (a ∷ more) (suc n) = bound_later (after bound a) more n
-
-sooner : (least first : ℕ) (ps : List Piece) → least ≤ first → IsBacklogFrom first ps → IsBacklogFrom least ps
-sooner least first [] le k = tt
-sooner least first (p ∷ ps) le k = (omega (arith, le, k.0), k.1, k.2, k.3, k.4)
 
 with_one : (same : Bool) (minute bound shown : ℕ) (rest : List Piece) → (bound == shown) ≡ same → minute < 1440 → bound ≤ MAX_BACKLOG → shown ≤ bound → IsBacklogFrom (minute + 1) rest → IsBacklogFrom minute (if same then rest else record { minute = minute; value = bound } ∷ rest)
 with_one true minute bound shown rest e lt small over k = sooner minute (minute + 1) rest (omega arith) k
@@ -88,3 +84,56 @@ following_follows first arrivals t long small lt =
     at_following first arrivals (t + 1) (omega (arith, long)) (omega (arith, long, lt)) small
     ∙ (later_by_one first arrivals t (omega (arith, long, lt))
     ∙ sym (ap (λ (b : ℕ). after b (get_or arrivals t 0)) (at_following first arrivals t (omega (arith, long)) (omega (arith, long, lt)) small)))
+
+-- a shown bound moves on by a minute
+one_on : (minute bound a : ℕ) (more : List ℕ) → following_from minute bound bound (a ∷ more) ≡ following_from (minute + 1) (after bound a) (bound - 1) more
+one_on minute bound a more = rw (eq-eqb bound bound refl) refl
+
+-- it falls over so many minutes without arrivals
+falls : (n minute bound : ℕ) (sums : List ℕ) → minute + n ≤ length sums → bound ≤ MAX_BACKLOG → ((t : ℕ) → minute ≤ t → t < minute + n → get_or sums t 0 ≡ 0)
+    → following_from minute bound bound (drop minute sums) ≡ following_from (minute + n) (bound - n) (bound - n) (drop (minute + n) sums)
+falls zero minute bound sums fits small quiet =
+    let m : minute ≡ minute + 0 = omega arith in
+    let b : bound ≡ bound - 0 = omega arith in
+    ap (λ (k : ℕ). following_from k bound bound (drop k sums)) m ∙ ap (λ (k : ℕ). following_from (minute + 0) k k (drop (minute + 0) sums)) b
+falls (suc n) minute bound sums fits small quiet =
+    let a = get_or sums minute 0 in
+    let next : suc minute ≡ minute + 1 = omega arith in
+    let fallen : after bound a ≡ bound - 1 = omega (arith, small, quiet minute (omega arith) (omega arith)) in
+    let end : (minute + 1) + n ≡ minute + suc n = omega arith in
+    let left : (bound - 1) - n ≡ bound - suc n = omega arith in
+    ap (following_from minute bound bound) (drop-cons sums minute 0 (omega (arith, fits)))
+    ∙ (one_on minute bound a (drop (suc minute) sums)
+    ∙ (ap (λ (b : ℕ). following_from (minute + 1) b (bound - 1) (drop (suc minute) sums)) fallen
+    ∙ (ap (λ (k : ℕ). following_from (minute + 1) (bound - 1) (bound - 1) (drop k sums)) next
+    ∙ (falls n (minute + 1) (bound - 1) sums (omega (arith, fits)) (omega (arith, small)) (λ t le lt. quiet t (omega (arith, le)) (omega (arith, lt)))
+    ∙ (ap (λ (k : ℕ). following_from k ((bound - 1) - n) ((bound - 1) - n) (drop k sums)) end
+    ∙ ap (λ (k : ℕ). following_from (minute + suc n) k k (drop (minute + suc n) sums)) left)))))
+
+-- to the next minute with arrivals, and over it
+pub turns : (minute step bound : ℕ) (sums : List ℕ) → minute ≤ step → step < length sums → bound ≤ MAX_BACKLOG → ((t : ℕ) → minute ≤ t → t < step → get_or sums t 0 ≡ 0)
+    → following_from minute bound bound (drop minute sums) ≡ following_from (step + 1) (after (bound - (step - minute)) (get_or sums step 0)) (bound - (step - minute) - 1) (drop (step + 1) sums)
+turns minute step bound sums le lt small quiet =
+    let n = step - minute in
+    let a = get_or sums step 0 in
+    let here : minute + n ≡ step = omega (arith, le) in
+    let next : suc step ≡ step + 1 = omega arith in
+    falls n minute bound sums (omega (arith, le, lt)) small (λ t from to. quiet t from (omega (arith, to, le)))
+    ∙ (ap (λ (k : ℕ). following_from k (bound - n) (bound - n) (drop k sums)) here
+    ∙ (ap (following_from step (bound - n) (bound - n)) (drop-cons sums step 0 lt)
+    ∙ (one_on step (bound - n) a (drop (suc step) sums)
+    ∙ ap (λ (k : ℕ). following_from (step + 1) (after (bound - n) a) (bound - n - 1) (drop k sums)) next)))
+
+-- a piece shows another bound than the pieces so far
+pub shows : (minute bound shown : ℕ) (sums : List ℕ) (items : List Piece) → minute < length sums → bound ≢ shown
+    → items ++ following_from minute bound shown (drop minute sums) ≡ (items ++ record { minute = minute; value = bound } ∷ []) ++ following_from minute bound bound (drop minute sums)
+shows minute bound shown sums items lt other =
+    let piece : Piece = record { minute = minute; value = bound } in
+    let a = get_or sums minute 0 in
+    let more = drop (suc minute) sums in
+    let whole = drop-cons sums minute 0 lt in
+    let one : following_from minute bound shown (a ∷ more) ≡ piece ∷ following_from minute bound bound (a ∷ more) = rw (ne_eqb bound shown other, eq-eqb bound bound refl) refl in
+    ap (λ (left : List ℕ). items ++ following_from minute bound shown left) whole
+    ∙ (ap (λ (ps : List Piece). items ++ ps) one
+    ∙ (sym (append_assoc items (piece ∷ []) (following_from minute bound bound (a ∷ more)))
+    ∙ ap (λ (left : List ℕ). (items ++ piece ∷ []) ++ following_from minute bound bound left) (sym whole)))

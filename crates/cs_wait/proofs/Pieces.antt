@@ -55,3 +55,7 @@ last_decides minute bound (p ∷ []) zero d long begun = rw (le-leb p.minute min
 last_decides minute bound (p ∷ []) (suc i) d long begun = absurd (omega (arith, long))
 last_decides minute bound (p ∷ q ∷ ps) zero d long begun = absurd (omega (arith, long))
 last_decides minute bound (p ∷ q ∷ ps) (suc i) d long begun = last_decides minute (decided minute bound p) (q ∷ ps) i d (omega (arith, long)) begun
+
+pub sooner : (least first : ℕ) (ps : List Piece) → least ≤ first → IsBacklogFrom first ps → IsBacklogFrom least ps
+sooner least first [] le k = tt
+sooner least first (p ∷ ps) le k = (omega (arith, le, k.0), k.1, k.2, k.3, k.4)

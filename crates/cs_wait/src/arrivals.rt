@@ -1,7 +1,7 @@
 ghost use Rattle.std.specs.Prelude.{◌≡◌, ◌^◌, ◌+◌, ◌-◌, ◌<◌, ◌≤◌, ◌↔◌, [], ◌∷◌, ℕ, List, IsTrue, length, slice_index, slice_set};
 ghost use Rattle.cs_wait.specs.Bounds.{StepsHold, StepsHoldWithin, at, at_days, none};
 
-use crate::backlog::Backlog;
+use crate::backlog::{Backlog, Walk, last_fall, turn};
 use cs_civil::MINUTES_OF_DAY;
 use std::marker::Model;
 
@@ -52,14 +52,37 @@ impl Arrivals {
     }
 }
 
+/// The first of these minutes with arrivals, or the last of them.
+pub(crate) fn next_arrival(sums: &[u32], first: u16, last: u16) -> u16
+    requires { (first ≤ last) × (last < length sums.now) }
+    ensures within { (first ≤ result) × (result ≤ last) }
+    ensures quiet { (t : ℕ) → first ≤ t → t < result → slice_index sums.now t ≡ 0 }
+{
+    for minute in first..last {
+        if sums[usize::from(minute)] > 0 {
+            return minute;
+        }
+    }
+    last
+}
+
 /// Checks each step from a minute of the day to the next, except over midnight: the later bound is
-/// at least the earlier plus the arrivals, less one, and at least 0.
+/// at least the earlier plus the arrivals, less one, and at least 0. Only steps with arrivals and
+/// steps to a piece can fail.
 pub fn steps_within(bounds: &Backlog, arrivals: &Arrivals) -> bool
     ensures { IsTrue result ↔ StepsHoldWithin (at bounds.now) (slice_index arrivals.now) }
 {
-    let table = bounds.by_minute();
-    for minute in 0..table.len() - 1 {
-        if !follows(table[minute], arrivals.sums[minute], table[minute + 1]) {
+    let list = bounds.pieces();
+    let mut walk = turn(list, Walk { place: 0, bound: 0 }, 0);
+    let mut minute = 0;
+    while minute < MINUTES_OF_DAY - 1 {
+        let last = last_fall(list, walk, minute);
+        let step = next_arrival(&arrivals.sums, minute, last);
+        let bound = walk.bound.saturating_sub(u32::from(step - minute));
+        minute = step + 1;
+        walk.bound = bound.saturating_sub(1);
+        walk = turn(list, walk, minute);
+        if !follows(bound, arrivals.sums[usize::from(step)], walk.bound) {
             return false;
         }
     }

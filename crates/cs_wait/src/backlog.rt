@@ -86,32 +86,17 @@ impl Backlog {
     {
         at_minute(self.list.as_slice(), minute)
     }
-
-    /// Returns the bound at each minute of the day, in one pass over the pieces.
-    pub fn by_minute(&self) -> [u32; 1_440]
-        ensures long { length result ≡ 1440 }
-        ensures each { (m : ℕ) → m < 1440 → slice_index result m ≡ at self.now m }
-    {
-        let mut bounds = [0; 1_440];
-        let mut walk = Walk { place: 0, bound: 0 };
-        for minute in 0..MINUTES_OF_DAY {
-            walk = turn(self.list.as_slice(), walk, minute);
-            bounds[usize::from(minute)] = walk.bound;
-            walk.bound = walk.bound.saturating_sub(1);
-        }
-        bounds
-    }
 }
 
 /// A walk over a day's pieces: the next one's index, and the bound if none begins at the minute.
 #[derive(Clone, Copy)]
-struct Walk {
-    place: usize,
-    bound: u32,
+pub(crate) struct Walk {
+    pub(crate) place: usize,
+    pub(crate) bound: u32,
 }
 
 /// The walk past the piece that begins at the minute, if one does. Its bound is the minute's.
-fn turn(list: &[Piece], walk: Walk, minute: u16) -> Walk
+pub(crate) fn turn(list: &[Piece], walk: Walk, minute: u16) -> Walk
     requires { IsBacklogFrom minute (drop walk.place list.now) }
     ensures left { IsBacklogFrom (minute + 1) (drop result.place list.now) }
     ensures same { (t : ℕ) → minute ≤ t
@@ -125,6 +110,19 @@ fn turn(list: &[Piece], walk: Walk, minute: u16) -> Walk
         };
     }
     walk
+}
+
+/// The minute before the next piece, or without one the last but one of the day.
+pub(crate) fn last_fall(list: &[Piece], walk: Walk, minute: u16) -> u16
+    requires early { minute + 1 < MINUTES_OF_DAY }
+    requires left { IsBacklogFrom (minute + 1) (drop walk.place list.now) }
+    ensures within { (minute ≤ result) × (result + 1 < MINUTES_OF_DAY) }
+    ensures left { IsBacklogFrom (result + 1) (drop walk.place list.now) }
+{
+    match list.get(walk.place) {
+        Some(piece) => piece.minute - 1,
+        None => MINUTES_OF_DAY - 2,
+    }
 }
 
 fn is_backlog(list: &[Piece]) -> bool

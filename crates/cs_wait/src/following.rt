@@ -1,7 +1,7 @@
 ghost use Rattle.std.specs.Prelude.{◌≡◌, ◌+◌, ◌-◌, ◌<◌, ◌≤◌, ℕ, IfOk, min, slice_index};
 ghost use Rattle.cs_wait.specs.Bounds.{at, following};
 
-use crate::arrivals::Arrivals;
+use crate::arrivals::{Arrivals, next_arrival};
 use crate::backlog::{Backlog, MAX_BACKLOG, Piece};
 use cs_civil::MINUTES_OF_DAY;
 use std::alloc::{AllocError, Global};
@@ -22,15 +22,19 @@ impl Backlog {
         let mut list = Vec::new(alloc);
         let mut bound = first;
         let mut shown = 0;
-        for minute in 0..MINUTES_OF_DAY {
+        let mut minute = 0;
+        while minute < MINUTES_OF_DAY {
             if bound != shown {
                 list.push(Piece {
                     minute,
                     value: bound,
                 })?;
             }
+            let step = next_arrival(sums, minute, MINUTES_OF_DAY - 1);
+            bound = bound.saturating_sub(u32::from(step - minute));
             shown = bound.saturating_sub(1);
-            bound = bound_after(bound, sums[usize::from(minute)]);
+            bound = bound_after(bound, sums[usize::from(step)]);
+            minute = step + 1;
         }
         Ok(Backlog::of_pieces(list))
     }

@@ -1,6 +1,7 @@
 use Rattle.std.proofs.Common.{◌≡◌, ◌<◌, ◌≤◌, ◌+◌, ◌^◌, ℕ, List, Bool, true, false, ◌∷◌, [], if◌then◌else◌, length, slice_index, slice_set, refl, sym, ap, ◌∙◌, subst, arith, inl, inr, get_or-set_same, get_or-set_other}
 use Rattle.std.proofs.lemmas.Bool.Decides.{eqb_tells}
 use Rattle.std.proofs.Math.ListN.{length-set}
+use Rattle.cs_claims.specs.Certificate.{is_due_in}
 use Rattle.cs_classes.specs.DayMinutes.{AreRisingFrom}
 use Rattle.cs_classes.proofs.DayMinutes.{first_is, none_below}
 use Rattle.cs_schedule.specs.Numbers.{has}
@@ -26,20 +27,20 @@ next_arrives sums left rest k max least long e r m lt =
     ]
 
 -- the first of what is left still fits
-next_fits : (sums first left rest ms : List ℕ) (k max : ℕ) → left ≡ k ∷ rest → k < 1440
-    → ((m : ℕ) → m < 1440 → slice_index sums m + (if has left m then max else 0) ≡ slice_index first m + (if has ms m then max else 0))
+next_fits : (sums first left rest : List ℕ) (due : ℕ → Bool) (k max : ℕ) → left ≡ k ∷ rest → k < 1440
+    → ((m : ℕ) → m < 1440 → slice_index sums m + (if has left m then max else 0) ≡ slice_index first m + (if due m then max else 0))
     → ((m : ℕ) → m < 1440 → slice_index first m + max < 2 ^ 32) → slice_index sums k + max < 2 ^ 32
-next_fits sums first left rest ms k max e lt same fits =
+next_fits sums first left rest due k max e lt same fits =
     let here : has left k ≡ true = first_is left rest k e in
-    omega (arith, rw here at (same k lt), brings_at_most max (has ms k), fits k lt)
+    omega (arith, rw here at (same k lt), brings_at_most max (due k), fits k lt)
 
 pub loop-minute-init : goal.loop-minute-init
 loop-minute-init c =
-    let same = c.into_iter-minute-iterator.ensures.into_iter_gives ∙ c.iter-minute-items.ensures in
-    let all = c.args.minutes.now in (
+    let same = c.into_iter-minute-iterator.ensures.into_iter_gives ∙ c.iter-minute-items.ensures in (
       c.requires.long,
-      (0, subst (λ (ms : List ℕ). AreRisingFrom 0 ms) (sym same) c.requires.rising),
-      λ m lt. ap (λ (ms : List ℕ). slice_index c.args.arrivals.now m + (if has ms m then c.args.max else 0)) same,
+      (0, subst (λ (ms : List ℕ). AreRisingFrom 0 ms) (sym same) c.due_in_order-minutes.ensures.rising),
+      λ m lt. ap (λ (ms : List ℕ). slice_index c.args.arrivals.now m + (if has ms m then c.args.max else 0)) same
+          ∙ ap (λ (due : Bool). slice_index c.args.arrivals.now m + (if due then c.args.max else 0)) (c.due_in_order-minutes.ensures.due m lt),
     )
 
 pub add-requires : goal.add-requires
@@ -50,7 +51,7 @@ add-requires c =
     let rising = subst (AreRisingFrom c.loop-minute.invariant.1.0) c.in-Some.ensures.steps c.loop-minute.invariant.1.1 in
     record {
       day = rising.1;
-      fits = next_fits c.loop-minute.arrivals c.args.arrivals.now left rest c.args.minutes.now k c.args.max c.in-Some.ensures.steps rising.1 c.loop-minute.invariant.2 c.requires.fits;
+      fits = next_fits c.loop-minute.arrivals c.args.arrivals.now left rest (is_due_in c.args.class.now c.args.number) k c.args.max c.in-Some.ensures.steps rising.1 c.loop-minute.invariant.2 c.requires.fits;
     }
 
 pub loop-minute-preserved : goal.loop-minute-preserved

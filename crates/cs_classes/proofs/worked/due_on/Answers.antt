@@ -1,11 +1,13 @@
 use Rattle.std.proofs.Common.{◌≡◌, ℕ, suc, ◌+◌, ◌<◌, ◌++◌, length, List, [], ◌∷◌, filter, refl, sym, ap, ◌∙◌, arith}
 use Rattle.std.specs.Prelude.{flat_map, slice_index_or}
+use Rattle.std.proofs.lemmas.List.{get_or_default}
 use Rattle.std.proofs.lemmas.List.Concat.{flat_map-append}
 use Rattle.cs_claims.specs.declared.class.DueList.{DueList}
 use Rattle.cs_zone.specs.Zone.{Zone}
+use Rattle.cs_zone.specs.declared.shape.Shape.TheVariants.{Plain}
+use Rattle.cs_classes.specs.Likeness.{is_due_by}
 use Rattle.cs_crontab.specs.Crontab.{CommandLine, Table}
 use Rattle.cs_plan.specs.Plan.{Declared, command_of, no_command}
-use Rattle.cs_civil.specs.Calendar.{Kind}
 use Rattle.cs_history.specs.Lists.{below}
 use Rattle.cs_windows.specs.Windows.{day_minutes}
 use Rattle.cs_classes.proofs.Lists.{within}
@@ -26,12 +28,26 @@ one_more f n so_far next more h k e =
 line_there : (lines : List CommandLine) (d : Declared) (j : ℕ) (line : CommandLine) → j < length lines → lines ≡ d.crontab.lines → line ≡ slice_index_or lines j line → line ≡ command_of d j
 line_there lines d j line lt same is = is ∙ (within lines j line no_command lt ∙ ap (λ (ls : List CommandLine). slice_index_or ls j no_command) same)
 
-list_of : (d : Declared) (kind : Kind) (j : ℕ) (line : CommandLine) (minutes : List ℕ) → line ≡ command_of d j → minutes ≡ filter (is_due_on d.zone line.when kind) day_minutes → due_list j minutes ≡ due_list j (filter (due_on d j kind) day_minutes)
-list_of d kind j line minutes e h = ap (due_list j) (h ∙ ap (λ (l : CommandLine). filter (is_due_on d.zone l.when kind) day_minutes) e)
+pub listed_on-requires : goal.listed_on-requires
+listed_on-requires c =
+    let d = c.args.plan.now in
+    let j = c.loop-job.job in
+    let lines = c.lines-line-items.ensures.value ∙ ap (λ (t : Table). t.lines) c.crontab.ensures.value in
+    let there : j < length c.args.plain.now = omega (arith, c.loop-job-test.true, ap length lines, c.requires.long) in
+    let line = line_there c.lines-line-items.result.now d j c.line-item.result c.loop-job-test.true lines c.line-item.is in
+    c.as_slice.ensures
+    ∙ (c.index-plain-job.is
+    ∙ (get_or_default c.args.plain.now j c.index-plain-job.result [] there
+    ∙ (c.requires.each j (omega (arith, there, c.requires.long))
+    ∙ (ap (λ (z : Zone). filter (is_due_by z (command_of d j).when Plain) day_minutes) (sym c.zone-zone.ensures)
+    ∙ ap (λ (l : CommandLine). filter (is_due_by c.zone-zone.result.now l.when Plain) day_minutes) (sym line)))))
 
 pub loop-job-preserved : goal.loop-job-preserved
 loop-job-preserved c =
     let d = c.args.plan.now in
     let j = c.loop-job.job in
-    one_more (λ (k : ℕ). due_list k (filter (due_on d k c.args.kind) day_minutes)) j c.loop-job.due c.add_list.new.due (due_list j c.minutes_on.result) c.loop-job.invariant c.in_ok-add_list.ensures
-    (list_of d c.args.kind j c.line-item.result c.minutes_on.result (line_there c.lines-line-items.result.now d j c.line-item.result c.loop-job-test.true (c.lines-line-items.ensures.value ∙ ap (λ (t : Table). t.lines) c.crontab.ensures.value) c.line-item.is) (c.minutes_on.ensures ∙ ap (λ (z : Zone). filter (is_due_on z c.line-item.result.when c.args.kind) day_minutes) c.zone.ensures))
+    let line = line_there c.lines-line-items.result.now d j c.line-item.result c.loop-job-test.true (c.lines-line-items.ensures.value ∙ ap (λ (t : Table). t.lines) c.crontab.ensures.value) c.line-item.is in
+    one_more (λ (k : ℕ). due_list k (filter (due_on d k c.args.kind) day_minutes)) j c.loop-job.due c.add_list.new.due (due_list j c.in_ok-minutes.minutes) c.loop-job.invariant c.in_ok-add_list.ensures
+    (ap (due_list j) (c.in_ok-minutes.ensures
+    ∙ (ap (λ (z : Zone). filter (is_due_on z c.line-item.result.when c.args.kind) day_minutes) c.zone-zone.ensures
+    ∙ ap (λ (l : CommandLine). filter (is_due_on d.zone l.when c.args.kind) day_minutes) line)))

@@ -1,5 +1,5 @@
 //! What may be left of earlier days when a day begins: the least that no successive days exceed.
-use crate::gains::Arrivals;
+use crate::gains::Gains;
 use crate::numbers::{minutes_at, number_at};
 use cs_profile::Facts;
 use std::alloc::{AllocError, Global};
@@ -14,8 +14,7 @@ const MOST_LEFT: u32 = 12_960;
 #[derive(Drop)]
 struct Carries<'a> {
     facts: &'a Facts,
-    /// What arrives on the days of each profile.
-    arrivals: &'a [Arrivals],
+    gains: &'a Gains,
     /// The place of each kind of day, by number. Kinds with one place are taken to be alike.
     places: &'a [u16],
     /// What is left when a day begins, by place.
@@ -31,8 +30,7 @@ impl<'a> Carries<'a> {
     }
 
     fn after(&self, kind: usize) -> u32 {
-        let profile = number_at(self.facts.profiles(), kind);
-        match self.arrivals.get(usize::from(profile)) {
+        match self.gains.on(kind) {
             Some(arrivals) => arrivals.left(self.before(kind)),
             None => 0,
         }
@@ -57,21 +55,25 @@ impl<'a> Carries<'a> {
 }
 
 /// The least that may be left when days of each kind begin, by the kind's number, where kinds with
-/// one place are taken to be alike. `None` if more than 12,960 minutes may be left, or ever more.
+/// one place are taken to be alike. Empty if nothing is ever left. `None` if more than 12,960
+/// minutes may be left, or ever more.
 pub(crate) fn least_carries(
     alloc: Global,
     facts: &Facts,
-    arrivals: &[Arrivals],
+    gains: &Gains,
     places: &[u16],
 ) -> Result<Option<Vec<u32>>, AllocError> {
     let mut carries = Carries {
         facts,
-        arrivals,
+        gains,
         places,
         left: Vec::from_elem(alloc, 0, facts.kinds().len())?,
     };
+    if !carries.go_on() {
+        return Ok(Some(Vec::new(alloc)));
+    }
     let mut is_settled = false;
-    for _ in 0..ROUNDS {
+    for _ in 1..ROUNDS {
         is_settled = is_settled || !carries.go_on();
     }
     if !is_settled {

@@ -4,9 +4,10 @@ ghost use Rattle.cs_claims.specs.Certificate.{content};
 use crate::class::classes_of;
 use crate::day_trees::day_tree;
 use crate::minute_trees::minute_tree;
+use crate::nodes::Classing;
 use cs_civil::{MINUTES_OF_DAY, Sequence};
 use cs_claims::{CertError, CertFault, Certificate, Class, Stretch};
-use cs_profile::{Classing, Facts};
+use cs_profile::Facts;
 use cs_windows::{JobReach, Window};
 use std::alloc::{AllocError, Global};
 
@@ -78,6 +79,6 @@ pub fn certificate(
     reaches: &[JobReach],
 ) -> Result<Result<Certificate, CertFault>, AllocError> {
     let version = version(facts, stretches.as_slice(), reaches);
-    let classes = classes_of(alloc, facts, &classing.classes);
+    let classes = classes_of(alloc, facts, classing);
     certified(alloc, version, classes, classing, stretches, reaches)
 }

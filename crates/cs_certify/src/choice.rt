@@ -23,61 +23,57 @@ pub(crate) struct Choice {
     rank: Rank,
 }
 
-/// By which split a class was seen last on each side.
-#[derive(Clone, Copy)]
-struct Seen {
-    inside: u32,
-    outside: u32,
-}
-
-/// Counts the classes on both sides of splits.
+/// Finds out which numbers of a part kinds of each class have.
 #[derive(Drop)]
 pub(crate) struct Tally {
-    seen: Vec<Seen>,
-    split: u32,
+    /// By class; none in between.
+    numbers_of: Vec<Numbers>,
 }
 
 impl Tally {
     pub(crate) fn new(alloc: Global, class_of: &[u16]) -> Result<Tally, AllocError> {
-        let never = Seen {
-            inside: 0,
-            outside: 0,
-        };
         let mut greatest: u16 = 0;
         for class in class_of {
             greatest = greatest.max(*class);
         }
         let count = usize::from(greatest).saturating_add(1);
         Ok(Tally {
-            seen: Vec::from_elem(alloc, never, count)?,
-            split: 0,
+            numbers_of: Vec::from_elem(alloc, Numbers::none(), count)?,
         })
     }
 
-    fn is_new(&mut self, class: u16, inside: bool) -> bool {
-        let split = self.split;
-        let Some(seen) = self.seen.get_mut(usize::from(class)) else {
-            return false;
-        };
-        let before = if inside { seen.inside } else { seen.outside };
-        if inside {
-            seen.inside = split;
-        } else {
-            seen.outside = split;
+    /// For each class of these kinds, the numbers of the part that its kinds have.
+    fn by_class(
+        &mut self,
+        alloc: Global,
+        kinds: &[Classed],
+        part: KindPart,
+    ) -> Result<Vec<Numbers>, AllocError> {
+        for classed in kinds {
+            if let Some(numbers) = self.numbers_of.get_mut(usize::from(classed.class)) {
+                *numbers = numbers.with(number_in(classed.kind, part));
+            }
         }
-        before != split
+        let mut by_class = Vec::new(alloc);
+        for classed in kinds {
+            if let Some(numbers) = self.numbers_of.get_mut(usize::from(classed.class)) {
+                if numbers.meets(*numbers) {
+                    by_class.push(*numbers)?;
+                    *numbers = Numbers::none();
+                }
+            }
+        }
+        Ok(by_class)
     }
+}
 
-    fn choice(&mut self, kinds: &[Classed], part: KindPart, numbers: Numbers) -> Choice {
-        self.split = self.split.saturating_add(1);
+impl Choice {
+    fn of(by_class: &[Numbers], part: KindPart, numbers: Numbers) -> Choice {
         let mut within: u32 = 0;
         let mut without: u32 = 0;
-        for classed in kinds {
-            let inside = numbers.has(number_in(classed.kind, part));
-            if self.is_new(classed.class, inside) {
-                within = within.saturating_add(u32::from(inside));
-                without = without.saturating_add(u32::from(!inside));
-            }
+        for own in by_class {
+            within = within.saturating_add(u32::from(own.meets(numbers)));
+            without = without.saturating_add(u32::from(own.without(numbers).meets(*own)));
         }
         let classes = within.saturating_add(without);
         Choice {
@@ -151,8 +147,9 @@ pub(crate) fn best_choice(
     for part in [KindPart::Month, KindPart::Day, KindPart::Weekday] {
         let all = possible.of(part);
         let candidates = candidates(alloc, kinds, part, all, splits)?;
+        let by_class = tally.by_class(alloc, kinds, part)?;
         for numbers in candidates.as_slice() {
-            let choice = tally.choice(kinds, part, fewer(*numbers, all));
+            let choice = Choice::of(&by_class, part, fewer(*numbers, all));
             let is_better = match best {
                 Some(known) => choice.rank < known.rank,
                 None => true,

@@ -1,6 +1,10 @@
+use crate::lock::Lock;
+use crate::nodes::Classing;
+use crate::numbers::minutes_at;
+use crate::pieces::pieces;
 use cs_civil::Sequence;
 use cs_claims::{CertError, CertFault, Class, DueList, GroupBacklog};
-use cs_profile::{DayClass, Due, Facts, GroupBound};
+use cs_profile::{Due, Facts};
 use cs_wait::{Backlog, BadPiece, Piece};
 use std::alloc::{AllocError, Global};
 
@@ -30,11 +34,21 @@ pub(crate) fn group_backlog(
     }
 }
 
-fn backlogs(alloc: Global, bounds: &[GroupBound]) -> Result<Sequence<GroupBacklog>, CertError> {
+/// What waits or runs on days of a kind, for each lock.
+fn backlogs(
+    alloc: Global,
+    locks: &[Lock],
+    kind: usize,
+) -> Result<Sequence<GroupBacklog>, CertError> {
     let mut backlogs = Sequence::new(alloc);
-    for bound in bounds {
-        if !bound.pieces.is_empty() {
-            backlogs.push(group_backlog(alloc, bound.group, &bound.pieces)?)?;
+    for lock in locks {
+        let arrivals = match lock.gains.on(kind) {
+            Some(arrivals) => arrivals.list.as_slice(),
+            None => &[],
+        };
+        let pieces = pieces(alloc, arrivals, minutes_at(&lock.carries, kind))?;
+        if !pieces.is_empty() {
+            backlogs.push(group_backlog(alloc, lock.group, &pieces)?)?;
         }
     }
     Ok(backlogs)
@@ -43,17 +57,13 @@ fn backlogs(alloc: Global, bounds: &[GroupBound]) -> Result<Sequence<GroupBacklo
 pub(crate) fn classes_of(
     alloc: Global,
     facts: &Facts,
-    classes: &[DayClass],
+    classing: &Classing,
 ) -> Result<Sequence<Class>, CertError> {
     let mut listed = Sequence::new(alloc);
-    for class in classes {
-        let due = match facts.due().get(usize::from(class.profile)) {
-            Some(due) => due.as_slice(),
-            None => &[],
-        };
+    for kind in classing.firsts.as_slice() {
         listed.push(Class {
-            due: due_lists(alloc, facts, due)?,
-            backlog: backlogs(alloc, &class.bounds)?,
+            due: due_lists(alloc, facts, facts.due_on(*kind))?,
+            backlog: backlogs(alloc, &classing.locks, *kind)?,
         })?;
     }
     Ok(listed)

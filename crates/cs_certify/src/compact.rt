@@ -3,30 +3,37 @@ ghost use Rattle.cs_claims.specs.Certificate.{content};
 
 use crate::certificates::certified;
 use crate::class::group_backlog;
+use crate::lock::Lock;
+use crate::nodes::Classing;
+use crate::numbers::minutes_at;
 use cs_civil::Sequence;
 use cs_claims::{CertError, CertFault, Certificate, Class, GroupBacklog};
-use cs_profile::{Classing, DayClass, GroupBound};
+use cs_wait::Piece;
 use cs_windows::JobReach;
 use std::alloc::{AllocError, Global};
 
-fn carries(alloc: Global, bounds: &[GroupBound]) -> Result<Sequence<GroupBacklog>, CertError> {
+fn carries(
+    alloc: Global,
+    locks: &[Lock],
+    kind: usize,
+) -> Result<Sequence<GroupBacklog>, CertError> {
     let mut carries = Sequence::new(alloc);
-    for bound in bounds {
-        if let Some(piece) = bound.pieces.first() {
-            if piece.minute == 0 {
-                carries.push(group_backlog(alloc, bound.group, &[*piece])?)?;
-            }
+    for lock in locks {
+        let value = minutes_at(&lock.carries, kind);
+        if value > 0 {
+            let piece = Piece { minute: 0, value };
+            carries.push(group_backlog(alloc, lock.group, &[piece])?)?;
         }
     }
     Ok(carries)
 }
 
-fn classes_of(alloc: Global, classes: &[DayClass]) -> Result<Sequence<Class>, CertError> {
+fn classes_of(alloc: Global, classing: &Classing) -> Result<Sequence<Class>, CertError> {
     let mut listed = Sequence::new(alloc);
-    for class in classes {
+    for kind in classing.firsts.as_slice() {
         listed.push(Class {
             due: Sequence::new(alloc),
-            backlog: carries(alloc, &class.bounds)?,
+            backlog: carries(alloc, &classing.locks, *kind)?,
         })?;
     }
     Ok(listed)
@@ -45,6 +52,6 @@ pub fn compact_certificate(
 ) -> Result<Result<Certificate, CertFault>, AllocError>
     ensures { IfOk result (λ made. IfOk made (λ certificate. (content certificate).version ≡ 3)) }
 {
-    let classes = classes_of(alloc, &classing.classes);
+    let classes = classes_of(alloc, classing);
     certified(alloc, 3, classes, classing, Sequence::new(alloc), reaches)
 }

@@ -1,5 +1,5 @@
-//! What arrives for the lock of a group on the days of each profile, and what that leaves for the
-//! day after.
+//! What arrives for the lock of a group day by day, and what that leaves for the day after.
+use crate::numbers::{first_places, number_at};
 use cs_profile::{Due, Facts, Task};
 use std::alloc::{AllocError, Global};
 
@@ -21,7 +21,7 @@ impl Arrival {
     }
 }
 
-/// What arrives for the lock of a group on the days of a profile.
+/// What arrives for the lock of a group on a day.
 #[derive(Drop)]
 pub(crate) struct Arrivals {
     /// By minute, rising. Minutes at which nothing arrives are missing.
@@ -38,10 +38,6 @@ impl Arrivals {
         let through = carry.saturating_add(self.work);
         through.saturating_sub(MINUTES_OF_DAY).max(self.rest)
     }
-}
-
-pub(crate) fn takes_lock_of(task: &Task, group: u8) -> bool {
-    task.is_cron && task.mode.takes_lock() && task.group == Some(group)
 }
 
 pub(crate) fn waits_for(task: &Task, group: u8) -> bool {
@@ -66,7 +62,7 @@ fn work_by_minute(
     let mut work: Vec<u32> = Vec::from_elem(alloc, 0, MINUTES_OF_DAY as usize)?;
     for due in due {
         if let Some(task) = tasks.get(usize::from(due.job)) {
-            if takes_lock_of(task, group) {
+            if task.takes_lock_of(group) {
                 for minute in task.minutes(*due) {
                     if let Some(work) = work.get_mut(usize::from(*minute)) {
                         *work = work.saturating_add(u32::from(task.max));
@@ -106,14 +102,26 @@ fn arrivals_of(
     })
 }
 
-pub(crate) fn arrivals_by_profile(
-    alloc: Global,
-    facts: &Facts,
-    group: u8,
-) -> Result<Vec<Arrivals>, AllocError> {
-    let mut by_profile = Vec::new(alloc);
-    for due in facts.due() {
-        by_profile.push(arrivals_of(alloc, facts.tasks(), due.as_slice(), group)?)?;
+/// What arrives for the lock of a group on days of each kind.
+#[derive(Drop)]
+pub(crate) struct Gains {
+    /// The sort of each kind, as [`Facts::sorts`] has it.
+    pub(crate) sorts: Vec<u16>,
+    by_sort: Vec<Arrivals>,
+}
+
+impl Gains {
+    pub(crate) fn of(alloc: Global, facts: &Facts, group: u8) -> Result<Gains, AllocError> {
+        let sorts = facts.sorts(alloc, group)?;
+        let mut by_sort = Vec::new(alloc);
+        for kind in first_places(alloc, &sorts)?.as_slice() {
+            let due = facts.due_on(*kind);
+            by_sort.push(arrivals_of(alloc, facts.tasks(), due, group)?)?;
+        }
+        Ok(Gains { sorts, by_sort })
     }
-    Ok(by_profile)
+
+    pub(crate) fn on(&self, kind: usize) -> Option<&Arrivals> {
+        self.by_sort.get(usize::from(number_at(&self.sorts, kind)))
+    }
 }

@@ -73,6 +73,23 @@ fn take_in(
     Ok(())
 }
 
+fn by_number(
+    alloc: Global,
+    kinds: &[Classed],
+    part: KindPart,
+) -> Result<Vec<Vec<Classed>>, AllocError> {
+    let mut by_number: Vec<Vec<Classed>> = Vec::new(alloc);
+    for _ in 0..NUMBERS {
+        by_number.push(Vec::new(alloc))?;
+    }
+    for classed in kinds {
+        if let Some(having) = by_number.get_mut(usize::from(number_in(classed.kind, part))) {
+            having.push(*classed)?;
+        }
+    }
+    Ok(by_number)
+}
+
 /// The possible numbers of a part of these kinds, in groups that needn't be told apart. If each
 /// part has only one group, all kinds have one class.
 pub(crate) fn groups_of(
@@ -82,15 +99,10 @@ pub(crate) fn groups_of(
     possible: Numbers,
 ) -> Result<Vec<Numbers>, AllocError> {
     let mut groups: Vec<Group> = Vec::new(alloc);
-    for number in 0..NUMBERS {
+    let by_number = by_number(alloc, kinds, part)?;
+    for (number, having) in (0..NUMBERS).zip(by_number.as_slice()) {
         if possible.has(number) {
-            let mut having = Vec::new(alloc);
-            for classed in kinds {
-                if number_in(classed.kind, part) == number {
-                    having.push(*classed)?;
-                }
-            }
-            take_in(alloc, &mut groups, number, part, &having)?;
+            take_in(alloc, &mut groups, number, part, having)?;
         }
     }
     let mut numbers = Vec::with_capacity(alloc, groups.len())?;

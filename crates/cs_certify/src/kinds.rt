@@ -55,6 +55,10 @@ impl Numbers {
         self.bits & bit(number) != 0
     }
 
+    pub(crate) fn meets(self, others: Numbers) -> bool {
+        self.bits & others.bits != 0
+    }
+
     pub(crate) fn with(self, number: u8) -> Numbers {
         Numbers {
             bits: self.bits | bit(number),

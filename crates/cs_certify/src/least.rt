@@ -1,9 +1,9 @@
 use crate::gains::MINUTES_OF_DAY;
 use crate::lock::{Lock, MOST_REACH, locks};
-use crate::nodes::classing;
+use crate::nodes::Classing;
 use crate::reaches::Longest;
 use cs_plan::Plan;
-use cs_profile::{Classing, Facts, Task};
+use cs_profile::{Facts, Task};
 use cs_windows::JobReach;
 use std::alloc::{AllocError, Global};
 
@@ -12,7 +12,7 @@ use std::alloc::{AllocError, Global};
 pub struct Bounds {
     /// The reach of each job that waits, by the job's number.
     pub reaches: Vec<JobReach>,
-    /// Classes of days, with the bounds of each group that a job waits for.
+    /// Classes of days, with the lock of each group that a job waits for.
     pub classing: Classing,
 }
 
@@ -111,6 +111,6 @@ pub fn least_bounds(
     };
     Ok(Some(Bounds {
         reaches,
-        classing: classing(alloc, facts, locks.as_slice())?,
+        classing: Classing::of(alloc, facts, locks)?,
     }))
 }

@@ -29,3 +29,4 @@ pub use day_trees::day_tree;
 pub use exact::ExactWaits;
 pub use least::{Bounds, least_bounds};
 pub use minute_trees::minute_tree;
+pub use nodes::Classing;

@@ -1,5 +1,5 @@
 use crate::carry::least_carries;
-use crate::gains::{Arrivals, arrivals_by_profile, is_waited_for};
+use crate::gains::{Gains, is_waited_for};
 use crate::reaches::{Longest, longest_waits};
 use cs_claims::MAX_GROUPS;
 use cs_profile::Facts;
@@ -11,9 +11,8 @@ pub(crate) const MOST_REACH: u32 = 4_320;
 #[derive(Drop)]
 pub(crate) struct Lock {
     pub(crate) group: u8,
-    /// What arrives for it on the days of each profile.
-    pub(crate) arrivals: Vec<Arrivals>,
-    /// What may be left when days of each kind begin, by the kind's number.
+    pub(crate) gains: Gains,
+    /// What may be left when days of each kind begin, by the kind's number; empty if nothing is.
     pub(crate) carries: Vec<u32>,
     /// How long runs of the jobs that wait for it may go on, by the job's number.
     pub(crate) longest: Vec<Longest>,
@@ -25,13 +24,13 @@ fn coarse_carries(
     alloc: Global,
     facts: &Facts,
     group: u8,
-    arrivals: &[Arrivals],
+    gains: &Gains,
     longest: &[Longest],
 ) -> Result<Option<Vec<u32>>, AllocError> {
-    let Some(carries) = least_carries(alloc, facts, arrivals, facts.profiles())? else {
+    let Some(carries) = least_carries(alloc, facts, gains, facts.profiles())? else {
         return Ok(None);
     };
-    let waits = longest_waits(alloc, facts, group, arrivals, carries.as_slice())?;
+    let waits = longest_waits(alloc, facts, group, gains, carries.as_slice())?;
     if waits.as_slice() == longest {
         Ok(Some(carries))
     } else {
@@ -48,20 +47,24 @@ fn lock_of(
     group: u8,
     kinds: &[u16],
 ) -> Result<Option<Lock>, AllocError> {
-    let arrivals = arrivals_by_profile(alloc, facts, group)?;
-    let Some(least) = least_carries(alloc, facts, arrivals.as_slice(), kinds)? else {
+    let gains = Gains::of(alloc, facts, group)?;
+    let Some(least) = least_carries(alloc, facts, &gains, kinds)? else {
         return Ok(None);
     };
-    let longest = longest_waits(alloc, facts, group, arrivals.as_slice(), least.as_slice())?;
+    let longest = longest_waits(alloc, facts, group, &gains, least.as_slice())?;
     for wait in longest.as_slice() {
         if wait.reach > MOST_REACH {
             return Ok(None);
         }
     }
-    let coarse = coarse_carries(alloc, facts, group, arrivals.as_slice(), longest.as_slice())?;
+    let coarse = if least.is_empty() {
+        None
+    } else {
+        coarse_carries(alloc, facts, group, &gains, longest.as_slice())?
+    };
     Ok(Some(Lock {
         group,
-        arrivals,
+        gains,
         carries: coarse.unwrap_or(least),
         longest,
     }))

@@ -9,13 +9,16 @@ pub(crate) fn minutes_at(minutes: &[u32], place: usize) -> u32 {
     minutes.get(place).copied().unwrap_or(0)
 }
 
-/// New numbers for kinds: two have the same exactly if they had the same, and as much is left. They
-/// are numbered from 0, in order of their first place.
+/// New numbers for kinds: two have the same exactly if they had the same, and as much is left;
+/// `carries` is empty if nothing is. Both are numbered from 0, in order of their first place.
 pub(crate) fn told_apart(
     alloc: Global,
     numbers: &[u16],
     carries: &[u32],
 ) -> Result<Vec<u16>, AllocError> {
+    if carries.is_empty() {
+        return Vec::from_slice(alloc, numbers);
+    }
     let mut seen = IndexSet::new(alloc);
     let mut finer = Vec::new(alloc);
     for (number, carry) in numbers.iter().zip(carries) {

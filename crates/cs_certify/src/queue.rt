@@ -1,5 +1,5 @@
 //! Who comes one after the other for the lock of a group, day by day.
-use crate::gains::{MINUTES_OF_DAY, takes_lock_of, waits_for};
+use crate::gains::{MINUTES_OF_DAY, waits_for};
 use cs_profile::{Calendar, Due, Facts, Task};
 use std::alloc::{AllocError, Global};
 
@@ -83,7 +83,7 @@ fn runs_on(
     let mut runs = Vec::new(alloc);
     for due in due {
         if let Some(task) = tasks.get(usize::from(due.job)) {
-            if takes_lock_of(task, group) {
+            if task.takes_lock_of(group) {
                 for minute in task.minutes(*due) {
                     let minute = u32::from(*minute);
                     runs.push(QueuedRun {

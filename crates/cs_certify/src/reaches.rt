@@ -1,6 +1,6 @@
 use crate::busy::{BusyTime, busy_times};
-use crate::gains::{Arrivals, MINUTES_OF_DAY, waits_for};
-use crate::numbers::{first_places, minutes_at, number_at, told_apart};
+use crate::gains::{Gains, MINUTES_OF_DAY, waits_for};
+use crate::numbers::{first_places, minutes_at, told_apart};
 use cs_profile::{Facts, Task};
 use std::alloc::{AllocError, Global};
 
@@ -32,7 +32,8 @@ impl Longest {
 
 #[derive(Drop)]
 struct LikeDays {
-    profile: u16,
+    /// The first kind of such days, by number.
+    kind: usize,
     busy: Vec<BusyTime>,
     /// If the lock isn't free again on such a day, the first minute after the day at which it is,
     /// counted from the start of the day: the latest that the next days may bring.
@@ -42,20 +43,18 @@ struct LikeDays {
 /// The days of each number. When the lock is free after them isn't known yet.
 fn like_days(
     alloc: Global,
-    facts: &Facts,
-    arrivals: &[Arrivals],
+    gains: &Gains,
     carries: &[u32],
     numbers: &[u16],
 ) -> Result<Vec<LikeDays>, AllocError> {
     let mut days = Vec::new(alloc);
     for kind in first_places(alloc, numbers)?.as_slice() {
-        let profile = number_at(facts.profiles(), *kind);
-        let list = match arrivals.get(usize::from(profile)) {
+        let list = match gains.on(*kind) {
             Some(arrivals) => arrivals.list.as_slice(),
             None => &[],
         };
         days.push(LikeDays {
-            profile,
+            kind: *kind,
             busy: busy_times(alloc, list, minutes_at(carries, *kind))?,
             free_after: 0,
         })?;
@@ -100,17 +99,17 @@ fn next_free(free: &[u32], next: &[u16]) -> u32 {
 fn days_of(
     alloc: Global,
     facts: &Facts,
-    arrivals: &[Arrivals],
+    gains: &Gains,
     carries: &[u32],
 ) -> Result<Vec<LikeDays>, AllocError> {
-    let numbers = told_apart(alloc, facts.profiles(), carries)?;
-    let mut days = like_days(alloc, facts, arrivals, carries, numbers.as_slice())?;
+    let numbers = told_apart(alloc, &gains.sorts, carries)?;
+    let mut days = like_days(alloc, gains, carries, numbers.as_slice())?;
     let mut free = first_free_by_kind(alloc, days.as_slice(), numbers.as_slice())?;
     for _ in 0..MOST_DAYS {
         for (kind, next) in facts.successors().iter().enumerate() {
-            let later = next_free(free.as_slice(), next.as_slice());
-            if let Some(free) = free.get_mut(kind) {
-                if *free >= MINUTES_OF_DAY {
+            if minutes_at(free.as_slice(), kind) >= MINUTES_OF_DAY {
+                let later = next_free(free.as_slice(), next.as_slice());
+                if let Some(free) = free.get_mut(kind) {
                     *free = later;
                 }
             }
@@ -148,10 +147,7 @@ fn longest_in(busy: &BusyTime, minutes: &[u16], free_after: u32) -> Longest {
 
 /// Takes in each job that is due on such a day and waits for the lock of the group.
 fn add_day(longest: &mut [Longest], facts: &Facts, group: u8, day: &LikeDays) {
-    let Some(due) = facts.due().get(usize::from(day.profile)) else {
-        return;
-    };
-    for due in due.as_slice() {
+    for due in facts.due_on(day.kind) {
         let place = usize::from(due.job);
         if let (Some(task), Some(longest)) = (facts.tasks().get(place), longest.get_mut(place)) {
             if waits_for(task, group) {
@@ -170,10 +166,10 @@ pub(crate) fn longest_waits(
     alloc: Global,
     facts: &Facts,
     group: u8,
-    arrivals: &[Arrivals],
+    gains: &Gains,
     carries: &[u32],
 ) -> Result<Vec<Longest>, AllocError> {
-    let days = days_of(alloc, facts, arrivals, carries)?;
+    let days = days_of(alloc, facts, gains, carries)?;
     let mut longest = Vec::from_elem(alloc, Longest::NONE, facts.tasks().len())?;
     for day in days.as_slice() {
         add_day(longest.as_mut_slice(), facts, group, day);

@@ -2,11 +2,11 @@ ghost use Rattle.std.specs.Prelude.{◌≤◌, length};
 
 use crate::maker::Maker;
 use crate::stretches::{Stretches, days_of, stretches_by};
-use cs_certify::{certificate, stretch};
+use cs_certify::{Classing, certificate, stretch};
 use cs_civil::Sequence;
 use cs_claims::{Certificate, MAX_CERTIFICATE, MAX_CLASSES, Stretch, least_text};
 use cs_classes::occupied;
-use cs_profile::{Classing, Facts};
+use cs_profile::Facts;
 use cs_windows::{Occupied, windows_on};
 use std::alloc::{AllocError, Global};
 
@@ -15,14 +15,11 @@ const LEAST_ENTRY: u64 = 8;
 
 /// How many windows begin on a day of this class.
 fn windows_begun(facts: &Facts, classing: &Classing, class: u16) -> u64 {
-    let Some(class) = classing.classes.get(usize::from(class)) else {
-        return 0;
-    };
-    let Some(due) = facts.due().get(usize::from(class.profile)) else {
+    let Some(kind) = classing.firsts.get(usize::from(class)) else {
         return 0;
     };
     let mut begun: u64 = 0;
-    for due in due {
+    for due in facts.due_on(*kind) {
         if let Some(task) = facts.tasks().get(usize::from(due.job)) {
             begun = begun.saturating_add(task.minutes(*due).len() as u64);
         }
@@ -66,7 +63,7 @@ impl Maker<'_> {
             return Ok(None);
         };
         let classing = &bounds.classing;
-        if classing.classes.len() > MAX_CLASSES {
+        if classing.firsts.len() > MAX_CLASSES {
             return Ok(None);
         }
         let reaches = bounds.reaches.as_slice();

@@ -14,6 +14,8 @@ pub struct Facts {
     successors: Vec<[u16; 2]>,
     profiles: Vec<u16>,
     due: Vec<Vec<Due>>,
+    /// For each cron job the numbers of its lists by kind.
+    rows: Vec<Vec<u16>>,
 }
 
 /// For each cron job the numbers of its lists by kind. Adds the lists to the tasks.
@@ -71,7 +73,7 @@ impl Facts {
         let successors = kinds::successors(alloc, kinds.as_slice())?;
         let clock = Clock::of(alloc, *plan.zone(), kinds.as_slice(), successors.as_slice())?;
         let rows = rows_of(alloc, plan, &clock, kinds.as_slice(), tasks.as_mut_slice())?;
-        let profiles = kinds::profiles(alloc, tasks.as_slice(), rows.as_slice(), kinds.len())?;
+        let profiles = kinds::sorts(alloc, tasks.as_slice(), rows.as_slice(), kinds.len(), None)?;
         let due = due_lists(alloc, rows.as_slice(), profiles.as_slice())?;
         Ok(Facts {
             tasks,
@@ -79,6 +81,7 @@ impl Facts {
             successors,
             profiles,
             due,
+            rows,
         })
     }
 
@@ -105,8 +108,25 @@ impl Facts {
         self.profiles.as_slice()
     }
 
+    /// Returns the sort of each kind for the lock of a group, by number. Kinds are of the same sort
+    /// exactly if the same cron jobs that take the lock are due on them, at the same minutes. Sorts
+    /// are numbered from 0, in order of their first kind. The only error is out of memory.
+    pub fn sorts(&self, alloc: Global, group: u8) -> Result<Vec<u16>, AllocError> {
+        let kinds = self.kinds.len();
+        kinds::sorts(alloc, &self.tasks, &self.rows, kinds, Some(group))
+    }
+
     /// Returns the cron jobs that are due on days of each profile, rising.
     pub fn due(&self) -> &[Vec<Due>] {
         self.due.as_slice()
+    }
+
+    /// Returns the cron jobs that are due on days of a kind, by its number, rising.
+    pub fn due_on(&self, kind: usize) -> &[Due] {
+        let profile = self.profiles.get(kind).copied().unwrap_or(u16::MAX);
+        match self.due.get(usize::from(profile)) {
+            Some(due) => due.as_slice(),
+            None => &[],
+        }
     }
 }

@@ -26,20 +26,20 @@ pub(crate) fn successors(alloc: Global, kinds: &[DayKind]) -> Result<Vec<[u16; 2
     Ok(successors)
 }
 
-/// Splits the sorts of days by this job's minutes: kinds get one sort exactly if they had one, and
-/// the job has the same list of minutes on both, or none. Sorts are numbered from 0, in order of
-/// their first kind.
+/// Splits this many sorts of days by a job's minutes: kinds get one sort exactly if they had one,
+/// and the job has the same list of minutes on both, or none. Sorts are numbered from 0, in order
+/// of their first kind. Returns how many there are, too.
 fn told_apart(
     alloc: Global,
-    sorts: &[u16],
+    (sorts, count): (&[u16], u16),
     numbers: &[u16],
     lists: usize,
-) -> Result<Vec<u16>, AllocError> {
+) -> Result<(Vec<u16>, u16), AllocError> {
     let choices = lists.saturating_add(1);
-    let places = choices.saturating_mul(sorts.len());
+    let places = choices.saturating_mul(usize::from(count));
     let mut seen: Vec<Option<u16>> = Vec::from_elem(alloc, None, places)?;
     let mut count: u16 = 0;
-    let mut finer = Vec::new(alloc);
+    let mut finer = Vec::with_capacity(alloc, sorts.len())?;
     for (sort, number) in sorts.iter().zip(numbers) {
         let first = usize::from(*sort).saturating_mul(choices);
         let place = first.saturating_add(usize::from(*number));
@@ -55,22 +55,29 @@ fn told_apart(
         }
         finer.push(number)?;
     }
-    Ok(finer)
+    Ok((finer, count))
 }
 
-/// The profile of each kind of day. `rows` has the number of each cron job's list by kind.
-pub(crate) fn profiles(
+/// The sort of each kind of day, by the minutes of the cron jobs that take the lock of the group,
+/// or of all if there is none. `rows` has the number of each cron job's list by kind.
+pub(crate) fn sorts(
     alloc: Global,
     tasks: &[Task],
     rows: &[Vec<u16>],
     kinds: usize,
+    group: Option<u8>,
 ) -> Result<Vec<u16>, AllocError> {
-    let mut profiles = Vec::from_elem(alloc, 0, kinds)?;
+    let mut sorts = Vec::from_elem(alloc, 0, kinds)?;
+    let mut count = 1;
     for (task, numbers) in tasks.iter().zip(rows) {
-        if !numbers.is_empty() {
+        let is_seen = match group {
+            Some(group) => task.takes_lock_of(group),
+            None => true,
+        };
+        if is_seen && !numbers.is_empty() {
             let lists = task.lists.len();
-            profiles = told_apart(alloc, profiles.as_slice(), numbers.as_slice(), lists)?;
+            (sorts, count) = told_apart(alloc, (&sorts, count), numbers, lists)?;
         }
     }
-    Ok(profiles)
+    Ok(sorts)
 }

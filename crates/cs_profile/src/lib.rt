@@ -5,7 +5,6 @@
 #![tactic(auto)]
 
 mod calendar;
-mod classing;
 mod clock;
 mod due;
 mod facts;
@@ -13,7 +12,6 @@ mod kinds;
 mod task;
 
 pub use calendar::{Calendar, DAYS_BEFORE};
-pub use classing::{Classing, DayClass, GroupBound};
 pub use due::Due;
 pub use facts::Facts;
 pub use task::Task;

@@ -31,6 +31,11 @@ impl Task {
         self.mode == Mode::Try
     }
 
+    /// Returns whether it is a cron job that takes the lock of this group.
+    pub fn takes_lock_of(&self, group: u8) -> bool {
+        self.is_cron && self.mode.takes_lock() && self.group == Some(group)
+    }
+
     /// Returns at which minutes it is due on such days, rising.
     pub fn minutes(&self, due: Due) -> &[u16] {
         match self.lists.get(usize::from(due.list)) {

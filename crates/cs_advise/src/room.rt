@@ -8,15 +8,16 @@ ghost use Rattle.cs_advise.specs.Room.{IsRoom};
 use crate::gap::gap_of;
 use crate::longer::with_max;
 use cs_judge::is_called_safe;
+use cs_maker::{Maker, Outlook};
 use cs_plan::{MAX_MINUTES, Plan};
 use std::alloc::{AllocError, Global};
 use std::thread::Threads;
 
-/// The first stride up from a declared longest time, in minutes.
-const FIRST_STRIDE: u16 = 4;
+/// So many tries leave one longest time: each but the first halves what is left.
+const HALVINGS: u8 = 14;
 
-/// Each stride is so many times as long as the one before.
-const GROWTH: u16 = 8;
+/// How many longest times more are tried that other windows suggest.
+const SUGGESTED: u8 = 16;
 
 /// What a job of a safe plan has to spare, in minutes.
 #[derive(Clone, Copy)]
@@ -47,62 +48,67 @@ fn is_safe_with<R: Threads + Sync>(
     is_called_safe(rt, alloc, &changed)
 }
 
-/// A safe longest time and a greater one that isn't known to be safe, by strides up from `max`.
-fn by_strides<R: Threads + Sync>(
-    rt: &R,
-    alloc: Global,
-    plan: &Plan,
-    job: u16,
-    max: u16,
-) -> Result<(u16, u16), AllocError>
+/// The greatest longest time with which the maker has a certificate, whether or not its windows
+/// break a rule: with a longer one jobs may have to wait too long. By halving.
+fn certified(alloc: Global, plan: &Plan, job: u16, max: u16) -> Result<u16, AllocError>
     requires there { job < length plan.now.jobs }
     requires in_range { (1 ≤ max) × (max ≤ MAX_MINUTES) }
-    requires safe { IsCalledSafe (with_max plan.now job max) }
-    ensures more { IfOk result (λ found. (max ≤ found.0) × (found.0 ≤ MAX_MINUTES)) }
-    ensures end { IfOk result (λ found. found.1 ≤ MAX_MINUTES) }
-    ensures safe { IfOk result (λ found. IsCalledSafe (with_max plan.now job found.0)) }
+    ensures { IfOk result (λ most. (max ≤ most) × (most ≤ MAX_MINUTES)) }
 {
     let mut low = max;
-    let mut stride = FIRST_STRIDE;
-    while low + stride < MAX_MINUTES {
-        let next = low + stride;
-        if !is_safe_with(rt, alloc, plan, job, next)? {
-            return Ok((low, next));
+    let mut high = MAX_MINUTES;
+    let mut next = MAX_MINUTES;
+    for _ in 0..HALVINGS {
+        if low == high {
+            break;
         }
-        low = next;
-        stride *= GROWTH;
+        let changed = with_max(alloc, plan, job, next)?;
+        if Maker::of(alloc, &changed)?.compact(alloc)?.is_some() {
+            low = next;
+        } else {
+            high = next - 1;
+        }
+        next = high - (high - low) / 2;
     }
-    Ok((low, MAX_MINUTES))
+    Ok(low)
 }
 
-/// Halves the interval: `low` is safe, and `high` isn't known to be.
-fn halved<R: Threads + Sync>(
-    rt: &R,
-    alloc: Global,
-    plan: &Plan,
-    job: u16,
-    mut low: u16,
-    mut high: u16,
-) -> Result<u16, AllocError>
+/// The greatest longest time with which no window should break a rule, by the maker, which isn't
+/// relied on. Where windows break one, the greatest time comes next with which those of the job
+/// don't; else what is left is halved.
+fn hoped(alloc: Global, plan: &Plan, job: u16, max: u16) -> Result<u16, AllocError>
     requires there { job < length plan.now.jobs }
-    requires in_range { (1 ≤ low) × (low ≤ MAX_MINUTES) × (high ≤ MAX_MINUTES) }
-    requires safe { IsCalledSafe (with_max plan.now job low) }
-    ensures more { IfOk result (λ most. low ≤ most) }
-    ensures safe { IfOk result (λ most. IsCalledSafe (with_max plan.now job most)) }
+    requires in_range { (1 ≤ max) × (max ≤ MAX_MINUTES) }
+    ensures { IfOk result (λ most. (max ≤ most) × (most ≤ MAX_MINUTES)) }
 {
-    while low + 1 < high {
-        let middle = low + (high - low) / 2;
-        if is_safe_with(rt, alloc, plan, job, middle)? {
-            low = middle;
-        } else {
-            high = middle;
+    let mut low = max;
+    let mut high = certified(alloc, plan, job, max)?;
+    let mut next = high;
+    for tried in 0..SUGGESTED + HALVINGS {
+        if low == high {
+            break;
+        }
+        let changed = with_max(alloc, plan, job, next)?;
+        let outlook = Maker::of(alloc, &changed)?.outlook(alloc, job)?;
+        match outlook {
+            Outlook::Safe => {
+                low = next;
+                next = high - (high - low) / 2;
+            }
+            Outlook::Broken(Some(most)) if tried < SUGGESTED => {
+                high = most.min(next - 1).max(low);
+                next = high;
+            }
+            Outlook::Broken(_) | Outlook::Unbounded => {
+                high = next - 1;
+                next = high - (high - low) / 2;
+            }
         }
     }
     Ok(low)
 }
 
-/// Tries the greatest longest time first, since many jobs have it, and then strides from the
-/// declared one, the last of which is halved.
+/// What the maker hopes is judged once. Without hope there is only what is declared.
 #[tactic(auto, using(crate::proofs::Own::safe_with_own))]
 pub(crate) fn room_of<R: Threads + Sync>(
     rt: &R,
@@ -116,11 +122,11 @@ pub(crate) fn room_of<R: Threads + Sync>(
     ensures room { IfOk result (IsRoom plan.now) }
 {
     let max = plan.job_at(job).max();
-    let most = if is_safe_with(rt, alloc, plan, job, MAX_MINUTES)? {
-        MAX_MINUTES
+    let hoped = hoped(alloc, plan, job, max)?;
+    let most = if max < hoped && is_safe_with(rt, alloc, plan, job, hoped)? {
+        hoped
     } else {
-        let (low, high) = by_strides(rt, alloc, plan, job, max)?;
-        halved(rt, alloc, plan, job, low, high)?
+        max
     };
     let gap = gap_of(plan, job);
     Ok(Room {

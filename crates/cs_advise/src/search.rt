@@ -7,8 +7,9 @@ use crate::shifting::shifted_start;
 use crate::source::Source;
 use cs_civil::Hours;
 use cs_history::Mode;
-use cs_judge::is_called_safe;
+use cs_maker::{Maker, Outlook};
 use cs_plan::{MAX_CAPACITY, Plan};
+use rayon::prelude::*;
 use std::alloc::{AllocError, Global};
 use std::thread::Threads;
 
@@ -63,9 +64,13 @@ enum Tried {
 
 impl<R: Threads + Sync> Search<'_, R> {
     fn is_safe(&self, change: &Change) -> Result<bool, AllocError> {
-        match changed_plan(self.alloc, self.source, self.plan, change)? {
-            Some(changed) => is_called_safe(self.rt, self.alloc, &changed.plan),
-            None => Ok(false),
+        let found = changed_plan(self.alloc, self.source, self.plan, change)?;
+        let Some(changed) = found else {
+            return Ok(false);
+        };
+        match Maker::of(self.alloc, &changed.plan)?.outlook(self.alloc, 0)? {
+            Outlook::Safe => Ok(true),
+            Outlook::Broken(_) | Outlook::Unbounded => Ok(false),
         }
     }
 
@@ -135,41 +140,49 @@ impl<R: Threads + Sync> Search<'_, R> {
         Ok(if is_safe { Some(change) } else { None })
     }
 
-    /// Adds the shifted start of a job, if it has none in this direction and the plan is safe with
-    /// it; preferably one shifted by up to four minutes less.
-    fn add_start(
-        &self,
-        changes: &mut Vec<Change>,
-        job: u16,
-        shift: Shift,
-    ) -> Result<(), AllocError> {
-        if is_found(changes.as_slice(), job, shift) {
-            return Ok(());
-        }
+    /// The shifted start of a job, if the plan is safe with it; preferably one shifted by up to four
+    /// minutes less.
+    fn near_start(&self, job: u16, shift: Shift) -> Result<Option<Change>, AllocError> {
         let Some(start) = self.safe_start(job, shift)? else {
-            return Ok(());
+            return Ok(None);
         };
         if FINE < shift.minutes {
             for minutes in shift.minutes.saturating_sub(FINE - 1)..shift.minutes {
                 if let Some(nearer) = self.safe_start(job, Shift { minutes, ..shift })? {
-                    changes.push(nearer)?;
-                    return Ok(());
+                    return Ok(Some(nearer));
                 }
             }
         }
-        changes.push(start)?;
-        Ok(())
+        Ok(Some(start))
     }
 
+    /// Adds the shifted starts of these jobs with which the plan is safe, found by several threads,
+    /// where a job has none in that direction.
     fn add_starts(
         &self,
         changes: &mut Vec<Change>,
         jobs: &[u16],
         minutes: u16,
     ) -> Result<(), AllocError> {
-        for job in jobs {
-            for is_later in [true, false] {
-                self.add_start(changes, *job, Shift { is_later, minutes })?;
+        let mut tried = Vec::new(self.alloc);
+        for place in 0..2 * jobs.len() {
+            let (job, is_later) = (jobs[place / 2], place % 2 == 0);
+            let shift = Shift { is_later, minutes };
+            if !is_found(changes.as_slice(), job, shift) {
+                tried.push((job, shift))?;
+            }
+        }
+        let found = tried
+            .as_slice()
+            .par_iter()
+            .with_min_len(1)
+            .map(|it: &(u16, Shift)| -> Result<Option<Change>, AllocError> {
+                self.near_start(it.0, it.1)
+            })
+            .collect::<Result<Vec<Option<Change>>, AllocError>>(self.rt, self.alloc)??;
+        for change in found {
+            if let Some(change) = change {
+                changes.push(change)?;
             }
         }
         Ok(())

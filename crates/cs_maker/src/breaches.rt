@@ -1,6 +1,5 @@
-use crate::search::Search;
 use cs_civil::MINUTES_OF_DAY;
-use cs_overlap::Quiet;
+use cs_overlap::{Quiet, Roles};
 use cs_profile::{Calendar, DAYS_BEFORE};
 use cs_story::{Breach, Rule, Span};
 use cs_windows::{Window, touches};
@@ -12,32 +11,49 @@ use std::alloc::{AllocError, Global};
 pub(crate) struct Found {
     pub(crate) rule: Rule,
     pub(crate) minute: u16,
+    pub(crate) cause: Cause,
+}
+
+/// Two windows that may not meet, or what the windows weigh together.
+#[derive(Clone, Copy)]
+pub(crate) enum Cause {
+    Pair(Window, Window),
+    Load(u128),
 }
 
 /// What these windows of a stretch break. A rule is skipped if a quick test of them, or of longer
 /// ones, finds that it is kept.
 pub(crate) fn broken_by(
     alloc: Global,
-    search: &Search<'_>,
+    roles: &Roles,
     quiet: Quiet,
     windows: &[Window],
 ) -> Result<Option<Found>, AllocError> {
     if !quiet.is_apart {
-        if let Some((minute, _, _)) = search.roles.collision(alloc, windows)? {
-            let rule = Rule::Collision;
-            return Ok(Some(Found { rule, minute }));
+        if let Some((minute, one, other)) = roles.collision(alloc, windows)? {
+            return Ok(Some(Found {
+                rule: Rule::Collision,
+                minute,
+                cause: Cause::Pair(one, other),
+            }));
         }
     }
     if !quiet.is_within {
-        if let Some((minute, _)) = search.roles.overload(alloc, windows)? {
-            let rule = Rule::OverCapacity;
-            return Ok(Some(Found { rule, minute }));
+        if let Some((minute, load)) = roles.overload(alloc, windows)? {
+            return Ok(Some(Found {
+                rule: Rule::OverCapacity,
+                minute,
+                cause: Cause::Load(load),
+            }));
         }
     }
     if !quiet.is_free {
-        if let Some((minute, skip, _)) = search.roles.blocked(alloc, windows)? {
-            let rule = Rule::SkipBlocked { skip: skip.job };
-            return Ok(Some(Found { rule, minute }));
+        if let Some((minute, skip, other)) = roles.blocked(alloc, windows)? {
+            return Ok(Some(Found {
+                rule: Rule::SkipBlocked { skip: skip.job },
+                minute,
+                cause: Cause::Pair(skip, other),
+            }));
         }
     }
     Ok(None)

@@ -77,7 +77,7 @@ fn breach_until(
     let compared = (windows.len() as u64).saturating_mul(u64::from(MINUTES_OF_DAY));
     *steps = steps.saturating_sub(compared);
     let exact = waits.cut(alloc, last_day, bounded.days, windows.as_slice())?;
-    match broken_by(alloc, search, quiet, exact.as_slice())? {
+    match broken_by(alloc, &search.roles, quiet, exact.as_slice())? {
         Some(found) => Ok(Some(breach_on(alloc, last_day, exact.as_slice(), found)?)),
         None => Ok(None),
     }

@@ -7,10 +7,12 @@ mod breaches;
 mod exact;
 mod listed;
 mod maker;
+mod outlook;
 mod reason;
 mod search;
 mod stretches;
 mod sweep;
 
 pub use maker::Maker;
+pub use outlook::Outlook;
 pub use reason::Reason;

@@ -108,7 +108,8 @@ fn hoped(alloc: Global, plan: &Plan, job: u16, max: u16) -> Result<u16, AllocErr
     Ok(low)
 }
 
-/// What the maker hopes is judged once. Without hope there is only what is declared.
+/// The greatest time is judged at once for a job without a group, since most such jobs have it. Else
+/// what the maker hopes is judged; without hope there is only what is declared.
 #[tactic(auto, using(crate::proofs::Own::safe_with_own))]
 pub(crate) fn room_of<R: Threads + Sync>(
     rt: &R,
@@ -122,11 +123,16 @@ pub(crate) fn room_of<R: Threads + Sync>(
     ensures room { IfOk result (IsRoom plan.now) }
 {
     let max = plan.job_at(job).max();
-    let hoped = hoped(alloc, plan, job, max)?;
-    let most = if max < hoped && is_safe_with(rt, alloc, plan, job, hoped)? {
-        hoped
+    let is_free = plan.job_at(job).group().is_none();
+    let most = if is_free && is_safe_with(rt, alloc, plan, job, MAX_MINUTES)? {
+        MAX_MINUTES
     } else {
-        max
+        let hoped = hoped(alloc, plan, job, max)?;
+        if max < hoped && is_safe_with(rt, alloc, plan, job, hoped)? {
+            hoped
+        } else {
+            max
+        }
     };
     let gap = gap_of(plan, job);
     Ok(Room {
